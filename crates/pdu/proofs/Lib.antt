@@ -1,0 +1,3 @@
+-- Laws and theorems of the PDU part that belong to no one function.
+pub mod WordLaws
+pub mod ReadingLaws

@@ -1,0 +1,71 @@
+-- What a rule that is not broken says of a datagram's length, and small facts on tests that the readers' proofs share.
+-- Assumes nothing.
+use Prim.Native.Nat.{ℕ, _+_, _-_, _/_, _%_, _≤_}
+use mathlib.Core.Path.{_≡_, refl, ap}
+use mathlib.Core.Bool.{Bool, true, false, not, _||_, true≢false}
+use mathlib.Core.List.{List}
+use lib.ListN.{length, take, drop, length-take, length-drop}
+use lib.Dec.{eqb, ltb}
+use borrow.Author.Tests.{eqb-true, eq-eqb, ne-eqb, ltb-false, not-false}
+use native.Mathlib.Omega.{arith}
+use Rattle.wire.specs.Bytes.{num}
+use Rattle.wire.specs.First.{first}
+use Rattle.wire.proofs.FirstLaws.{none-behind, unbroken}
+use Rattle.pdu.specs.Records.{filled}
+use Rattle.pdu.specs.Reading.{wrongLength, wrongBits, transmitterRules, signalRules, readingRules, refusal}
+
+-- both halves of a disjunction that is false
+pub neither : (a b : Bool) → (a || b) ≡ false → (a ≡ false) × (b ≡ false)
+neither true b e = elim (true≢false e) [ ]
+neither false b e = (refl, e)
+
+-- an inequality that a branch has shown, as the rule's test
+pub differs : (m n : ℕ) → (m ≡ n → ⊥) → not (eqb m n) ≡ true
+differs m n h = ap not (ne-eqb m n h)
+
+pub agrees : (m n : ℕ) → m ≡ n → not (eqb m n) ≡ false
+agrees m n h = ap not (eq-eqb m n h)
+
+-- refusal 4 not given: the slice has the least length
+pub right-length : (least : ℕ) (d : List ℕ) → wrongLength least d ≡ false → least ≤ length d
+unfolding wrongLength
+right-length least d e =
+    let h = neither (not (eqb (num 2 8 d) (length d))) (ltb (num 2 8 d) least) e in
+    omega (arith, eqb-true (num 2 8 d) (length d) (not-false (eqb (num 2 8 d) (length d)) (h .0)), ltb-false (num 2 8 d) least (h .1))
+
+-- refusal 12 not given: the data has at least the network header
+pub right-bits : (bits : ℕ) → wrongBits bits ≡ false → 160 ≤ bits
+unfolding wrongBits
+right-bits bits e = ltb-false bits 160 (neither (not (eqb (bits % 8) 0)) (ltb bits 160) e .1)
+
+-- a part that starts in the middle has the length asked for
+pub part-length : (start n : ℕ) (d : List ℕ) → start + n ≤ length d → length (take (start + n - start) (drop start d)) ≡ n
+part-length start n d h = simp (length-take, length-drop) (omega arith)
+
+-- ---- what a taken datagram's length is
+
+pub taken-long : (d : List ℕ) → refusal d ≡ 0 → 12 ≤ length d
+unfolding refusal readingRules
+taken-long d e = ltb-false (length d) 12 (unbroken 0 (readingRules d) refl e)
+
+pub taken-transmitter : (d : List ℕ) → refusal d ≡ 0 → eqb (num 1 2 d) 25 ≡ true → first (transmitterRules d) ≡ 0
+unfolding refusal readingRules
+taken-transmitter d e type = rw type at (none-behind 3 (readingRules d) refl e)
+
+pub taken-signal : (d : List ℕ) → refusal d ≡ 0 → eqb (num 1 2 d) 25 ≡ false → first (signalRules d) ≡ 0
+unfolding refusal readingRules
+taken-signal d e type = rw type at (none-behind 3 (readingRules d) refl e)
+
+pub transmitter-size : (d : List ℕ) → first (transmitterRules d) ≡ 0 → length d ≡ 112
+unfolding transmitterRules
+transmitter-size d e = eqb-true (length d) 112 (not-false (eqb (length d) 112) (unbroken 4 (transmitterRules d) refl e))
+
+pub signal-bits : (d : List ℕ) → first (signalRules d) ≡ 0 → 160 ≤ num 2 28 d
+unfolding signalRules
+signal-bits d e = right-bits (num 2 28 d) (unbroken 3 (signalRules d) refl e)
+
+pub signal-length : (d : List ℕ) → first (signalRules d) ≡ 0 → length d ≡ filled (32 + num 2 28 d / 8)
+unfolding signalRules
+signal-length d e =
+    let size : ℕ = filled (32 + num 2 28 d / 8) in
+    eqb-true (length d) size (not-false (eqb (length d) size) (unbroken 4 (signalRules d) refl e))

@@ -1,0 +1,53 @@
+use Rattle.pdu.specs.Reading.{sizeOf}
+use mathlib.Core.Path.{sym, ap, _∙_}
+use borrow.Author.Needs.{needs}
+use Rattle.pdu.proofs.size.Statement.{statement}
+use Rattle.pdu.proofs.size.Tie as tie
+use Rattle.pdu.proofs.size.Reads as reads
+use Rattle.pdu.proofs.size.Lts as lts
+use Rattle.pdu.proofs.signal_reader.signal_size.Reads as signal-size-reads
+
+-- src/lib.rt:165:32
+enum-told : tie.Need-enum-told
+enum-told c = search needs
+
+-- src/lib.rt:166:36
+enum-told-2 : tie.Need-enum-told-2
+enum-told-2 c = search needs
+
+-- src/lib.rt:167:28
+enum-known-r : tie.Need-enum-known-r
+enum-known-r c = search needs
+
+-- src/lib.rt:167:64
+cast-signal-size : tie.Need-cast-signal-size
+cast-signal-size c = search needs
+
+-- src/lib.rt:167:37
+signal-size-requires : tie.Need-signal-size-requires
+signal-size-requires c κs = search needs
+
+-- src/lib.rt:161:1
+returns : tie.Need-returns
+returns c = search needs
+
+-- src/lib.rt:161:1
+returns-2 : tie.Need-returns-2
+returns-2 c = search needs
+
+-- src/lib.rt:161:1
+returns-3 : tie.Need-returns-3
+returns-3 c = c .signal-size .ensures ∙ sym (ap sizeOf (c .before .before .r .given .1))
+
+pub size-spec : {M : Type 1} → statement M
+size-spec =
+    tie.close
+    (tie.spec
+    enum-told
+    enum-told-2
+    enum-known-r
+    cast-signal-size
+    signal-size-requires
+    returns
+    returns-2
+    returns-3)

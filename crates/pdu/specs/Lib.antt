@@ -1,0 +1,7 @@
+-- What the PDU part means: the numbers of document 01, the tables, reading, writing and words.
+pub mod Numbers
+pub mod Tables
+pub mod Records
+pub mod Words
+pub mod Reading
+pub mod Writing

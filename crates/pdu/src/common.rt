@@ -1,0 +1,56 @@
+// Bytes 0 to 19, which both PDUs share, and the rules that stand there.
+ghost use mathlib.Core.Path.{_≡_};
+ghost use Prim.Native.Nat.{_≤_};
+ghost use lib.ListN.{length};
+ghost use Rattle.pdu.specs.Records.{headerOf};
+ghost use Rattle.pdu.specs.Reading.{wrongVersion, wrongType, wrongLength};
+use crate::Header;
+
+pub(crate) const SHORTEST: usize = 12;
+const OLDER_VERSION: u8 = 5;
+const NEWER_VERSION: u8 = 6;
+pub(crate) const TRANSMITTER_TYPE: u8 = 25;
+pub(crate) const SIGNAL_TYPE: u8 = 26;
+pub(crate) const RADIO_FAMILY: u8 = 4;
+
+// Whether refusal 2 applies to a version.
+pub(crate) fn wrong_version(v: u8) -> bool
+    ensures { λ r. ⌜ r ≡ wrongVersion v ⌝ }
+{
+    wire::no(wire::either(v == OLDER_VERSION, v == NEWER_VERSION))
+}
+
+// Whether refusal 3 applies.
+pub(crate) fn wrong_type(d: &[u8]) -> bool
+    requires { ⌜ 12 ≤ length (now d) ⌝ }
+    ensures { λ r. ⌜ r ≡ wrongType (now (d .entry)) ⌝ }
+{
+    let pdu_type = wire::u8_at(d, 2);
+    let known = wire::either(pdu_type == TRANSMITTER_TYPE, pdu_type == SIGNAL_TYPE);
+    wire::no(wire::both(known, wire::u8_at(d, 3) == RADIO_FAMILY))
+}
+
+// Whether refusal 4 applies, for a PDU whose length field is at least `least`.
+pub(crate) fn wrong_length(least: u16, d: &[u8]) -> bool
+    requires { ⌜ 12 ≤ length (now d) ⌝ }
+    ensures { λ r. ⌜ r ≡ wrongLength least (now (d .entry)) ⌝ }
+{
+    let field = wire::u16_at(d, 8);
+    wire::either(wire::no(field as usize == d.len()), field < least)
+}
+
+// The shared fields.
+pub(crate) fn read_header(d: &[u8]) -> Header
+    requires { ⌜ 20 ≤ length (now d) ⌝ }
+    ensures { λ r. ⌜ r ≡ headerOf (now (d .entry)) ⌝ }
+{
+    Header {
+        version: wire::u8_at(d, 0),
+        exercise: wire::u8_at(d, 1),
+        timestamp: wire::u32_at(d, 4),
+        site: wire::u16_at(d, 12),
+        application: wire::u16_at(d, 14),
+        entity: wire::u16_at(d, 16),
+        radio: wire::u16_at(d, 18),
+    }
+}

@@ -1,0 +1,169 @@
+// Reads and writes Link 16 PDUs (DIS Transmitter and Signal) as document 01 lays them out.
+// Every public call takes every input and is promised down to each bit of its answer and of the memory lent to it.
+
+ghost use mathlib.Core.Path.{_≡_};
+ghost use Rattle.pdu.specs.Reading.{refusal, reading, numberOf, sizeOf};
+
+mod common;
+mod transmitter_reader;
+mod signal_reader;
+pub mod words;
+
+// Bytes 0 to 19, which both PDUs share; type, family, length and padding are not kept.
+pub struct Header {
+    pub version: u8,
+    pub exercise: u8,
+    pub timestamp: u32,
+    pub site: u16,
+    pub application: u16,
+    pub entity: u16,
+    pub radio: u16,
+}
+
+// A Transmitter's radio entity type, its category left out.
+pub struct Entity {
+    pub kind: u8,
+    pub domain: u8,
+    pub country: u16,
+    pub version: u8,
+    pub nomenclature: u16,
+}
+
+// Antenna location (three doubles), relative location (three singles), as bits, and the pattern type.
+pub struct Antenna {
+    pub x: u64,
+    pub y: u64,
+    pub z: u64,
+    pub dx: u32,
+    pub dy: u32,
+    pub dz: u32,
+    pub pattern: u16,
+}
+
+// Frequency, bandwidth and power as bits; spread spectrum; crypto system and key ID.
+pub struct Emission {
+    pub state: u8,
+    pub frequency: u64,
+    pub bandwidth: u32,
+    pub power: u32,
+    pub spread: u16,
+    pub crypto: u16,
+    pub key: u16,
+}
+
+// Bytes 104 to 111: TSA level, modes, synchronization state and ID.
+pub struct Sync {
+    pub level: u8,
+    pub primary: u8,
+    pub secondary: u8,
+    pub state: u8,
+    pub id: u32,
+}
+
+pub struct Transmitter {
+    pub header: Header,
+    pub entity: Entity,
+    pub antenna: Antenna,
+    pub emission: Emission,
+    pub sync: Sync,
+}
+
+// The network header of a Signal; the slot ID is two fields, so that no padding bit is in a record.
+pub struct Network {
+    pub npg: u16,
+    pub net: u8,
+    pub tsec: u8,
+    pub msec: u8,
+    pub message_type: u8,
+    pub slot: u32,
+    pub epoch: u8,
+    pub time: u64,
+}
+
+pub struct Signal {
+    pub header: Header,
+    pub encoding: u16,
+    pub rate: u32,
+    pub samples: u16,
+    pub network: Network,
+}
+
+// What reading a datagram answers: a refusal number; a Transmitter; or a Signal and its body's size, the body left in the caller's slice.
+pub enum Reading {
+    Refused(u8),
+    Transmitter(Transmitter),
+    Signal(Signal, u16),
+}
+
+// What writing answers: a refusal number, or the bytes written.
+pub enum Written {
+    Refused(u8),
+    Size(usize),
+}
+
+// What stands at a word's place in a type 0 body.
+pub enum Word {
+    Absent,
+    Here { format: u8, label: u8, sublabel: u8 },
+}
+
+// The number of the first rule of reading that is broken, or 0 where the datagram is taken.
+fn reading_refusal(d: &[u8]) -> u8
+    ensures { λ r. ⌜ r ≡ refusal (now (d .entry)) ⌝ }
+{
+    if d.len() < common::SHORTEST {
+        return 1;
+    }
+    if common::wrong_version(wire::u8_at(d, 0)) {
+        return 2;
+    }
+    if common::wrong_type(d) {
+        return 3;
+    }
+    if wire::u8_at(d, 2) == common::TRANSMITTER_TYPE {
+        transmitter_reader::refusal(d)
+    } else {
+        signal_reader::refusal(d)
+    }
+}
+
+// Reads a datagram: takes it exactly when it meets its layout and every rule of document 01, else gives the first refusal that applies.
+pub fn read(datagram: &[u8]) -> Reading
+    ensures { λ r. ⌜ r ≡ reading (now (datagram .entry)) ⌝ }
+{
+    let n = reading_refusal(datagram);
+    if n != 0 {
+        return Reading::Refused(n);
+    }
+    if wire::u8_at(datagram, 2) == common::TRANSMITTER_TYPE {
+        Reading::Transmitter(transmitter_reader::fields(datagram))
+    } else {
+        let bits = wire::u16_at(datagram, 28);
+        Reading::Signal(
+            signal_reader::fields(datagram),
+            bits / 8 - signal_reader::NETWORK_BYTES,
+        )
+    }
+}
+
+// Document 01's number of what reading answered: 0 where the datagram is taken.
+pub fn number(r: Reading) -> u8
+    ensures { λ n. ⌜ n ≡ numberOf r ⌝ }
+{
+    match r {
+        Reading::Refused(n) => n,
+        Reading::Transmitter(_) => 0,
+        Reading::Signal(_, _) => 0,
+    }
+}
+
+// The size of the PDU that reading took: 0 where the datagram is refused.
+pub fn size(r: Reading) -> usize
+    ensures { λ n. ⌜ n ≡ sizeOf r ⌝ }
+{
+    match r {
+        Reading::Refused(_) => 0,
+        Reading::Transmitter(_) => transmitter_reader::SIZE,
+        Reading::Signal(_, body) => signal_reader::signal_size(body as usize),
+    }
+}

@@ -1,0 +1,178 @@
+// Reading a Signal.
+ghost use mathlib.Core.Path.{_≡_};
+ghost use mathlib.Core.List.{_++_};
+ghost use Prim.Native.Nat.{_+_, _-_, _/_, _≤_};
+ghost use lib.ListN.{length};
+ghost use Rattle.wire.specs.First.{first};
+ghost use Rattle.pdu.specs.Records.{headerOf, signalOf, filled, signalSize};
+ghost use Rattle.pdu.specs.Reading.{wrongBits, wrongSecurity, networkRules, bodyRules, signalRules};
+use crate::Network;
+use crate::Signal;
+use crate::common;
+use crate::words;
+
+const LEAST: u16 = 32;
+pub(crate) const ENCODING_CLASS: u16 = 1;
+pub(crate) const ENCODING_KEPT: u16 = 16384;
+pub(crate) const TDL_TYPE: u16 = 100;
+pub(crate) const NETWORK_BYTES: u16 = 20;
+pub(crate) const BODY_START: usize = 52;
+const LAST_NPG: u16 = 511;
+const LAST_NET: u8 = 127;
+const LAST_SECURITY: u8 = 127;
+const NO_SECURITY: u8 = 255;
+const LAST_MESSAGE_TYPE: u8 = 7;
+const LAST_SLOT: u32 = 98303;
+const LAST_EPOCH: u8 = 112;
+const LAST_SLOT_OF_LAST_EPOCH: u32 = 45151;
+const MOST_WORDS: usize = 12;
+const MOST_BYTES: usize = 256;
+
+// A size filled to a multiple of 4.
+pub(crate) fn filled_size(n: usize) -> usize
+    requires { ⌜ n ≤ 65600 ⌝ }
+    ensures { λ r. ⌜ r ≡ filled n ⌝ }
+{
+    (n + 3) / 4 * 4
+}
+
+// The size of a Signal PDU whose body has n bytes.
+pub(crate) fn signal_size(n: usize) -> usize
+    requires { ⌜ n ≤ 65535 ⌝ }
+    ensures { λ r. ⌜ r ≡ signalSize n ⌝ }
+{
+    filled_size(BODY_START + n)
+}
+
+// Whether refusal 12 applies to a data length in bits.
+fn wrong_bits(bits: u16) -> bool
+    ensures { λ r. ⌜ r ≡ wrongBits bits ⌝ }
+{
+    wire::either(wire::no(bits % 8 == 0), bits < 8 * NETWORK_BYTES)
+}
+
+// Whether a TSEC or MSEC is neither a key number nor absent.
+fn wrong_security(k: u8) -> bool
+    ensures { λ r. ⌜ r ≡ wrongSecurity k ⌝ }
+{
+    wire::no(wire::either(k <= LAST_SECURITY, k == NO_SECURITY))
+}
+
+fn read_network(d: &[u8]) -> Network
+    requires { ⌜ 52 ≤ length (now d) ⌝ }
+    ensures { λ r. ⌜ r ≡ signalOf (now (d .entry)) .network ⌝ }
+{
+    let slot_id = wire::u32_at(d, 40);
+    Network {
+        npg: wire::u16_at(d, 32),
+        net: wire::u8_at(d, 34),
+        tsec: wire::u8_at(d, 35),
+        msec: wire::u8_at(d, 36),
+        message_type: wire::u8_at(d, 37),
+        slot: slot_id % 131072,
+        epoch: (slot_id / 16777216 % 256) as u8,
+        time: wire::u64_at(d, 44),
+    }
+}
+
+// The number of the first broken rule of the network header, or 0.
+pub(crate) fn network_refusal(n: Network) -> u8
+    ensures { λ r. ⌜ r ≡ first (networkRules n) ⌝ }
+{
+    if LAST_NPG < n.npg {
+        return 13;
+    }
+    if LAST_NET < n.net {
+        return 13;
+    }
+    if wrong_security(n.tsec) {
+        return 13;
+    }
+    if wrong_security(n.msec) {
+        return 13;
+    }
+    if LAST_MESSAGE_TYPE < n.message_type {
+        return 13;
+    }
+    if LAST_SLOT < n.slot {
+        return 13;
+    }
+    if LAST_EPOCH < n.epoch {
+        return 13;
+    }
+    if wire::both(n.epoch == LAST_EPOCH, LAST_SLOT_OF_LAST_EPOCH < n.slot) {
+        return 13;
+    }
+    0
+}
+
+// The number of the first broken rule of a body, or 0.
+pub(crate) fn body_refusal(message_type: u8, body: &[u8]) -> u8
+    ensures { λ r. ⌜ r ≡ first (bodyRules «message_type» (length (now (body .entry)))) ⌝ }
+{
+    if message_type == 0 {
+        let n = words::count(body);
+        if body.len() != words::BODY_HEADER + words::WORD_BYTES * n {
+            return 14;
+        }
+        if MOST_WORDS < n {
+            return 15;
+        }
+        return 0;
+    }
+    if MOST_BYTES < body.len() {
+        return 15;
+    }
+    0
+}
+
+// The number of the first broken rule of the network header and of the body, which starts at byte 52, or 0.
+fn inner_refusal(d: &[u8], size: usize) -> u8
+    requires { ⌜ 52 + size ≤ length (now d) ⌝ }
+    ensures { λ r. ⌜ r ≡ first (networkRules (signalOf (now (d .entry)) .network) ++ bodyRules (signalOf (now (d .entry)) .network .«message_type») size) ⌝ }
+{
+    let network = read_network(d);
+    let n = network_refusal(network);
+    if n != 0 {
+        return n;
+    }
+    body_refusal(network.message_type, &d[BODY_START..BODY_START + size])
+}
+
+// The number of the first rule from 4 on that is broken, or 0.
+pub(crate) fn refusal(d: &[u8]) -> u8
+    requires { ⌜ 12 ≤ length (now d) ⌝ }
+    ensures { λ r. ⌜ r ≡ first (signalRules (now (d .entry))) ⌝ }
+{
+    if common::wrong_length(LEAST, d) {
+        return 4;
+    }
+    if wire::u16_at(d, 20) / ENCODING_KEPT != ENCODING_CLASS {
+        return 10;
+    }
+    if wire::u16_at(d, 22) != TDL_TYPE {
+        return 11;
+    }
+    let bits = wire::u16_at(d, 28);
+    if wrong_bits(bits) {
+        return 12;
+    }
+    if d.len() != filled_size((LEAST + bits / 8) as usize) {
+        return 8;
+    }
+    inner_refusal(d, (bits / 8 - NETWORK_BYTES) as usize)
+}
+
+// The fields of a Signal.
+pub(crate) fn fields(d: &[u8]) -> Signal
+    requires { ⌜ 52 ≤ length (now d) ⌝ }
+    ensures { λ r. ⌜ r ≡ signalOf (now (d .entry)) ⌝ }
+{
+    Signal {
+        header: common::read_header(d),
+        encoding: wire::u16_at(d, 20) % ENCODING_KEPT,
+        rate: wire::u32_at(d, 24),
+        samples: wire::u16_at(d, 30),
+        network: read_network(d),
+    }
+}

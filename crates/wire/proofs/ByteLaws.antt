@@ -1,0 +1,75 @@
+-- Laws of big-endian numbers and of splicing: bytes written and read back are the number, bytes read and written back are the bytes,
+-- and two splices side by side are one. Each goes by induction on the width or on the first piece.
+-- Assumes nothing.
+use Prim.Native.Nat.{ℕ, zero, suc, _+_, _*_, _/_, _%_, _^_, _≤_, _<_}
+use mathlib.Core.Path.{_≡_, refl, sym, ap, ap₂, _∙_}
+use mathlib.Core.List.{List, [], _∷_, _++_, append-assoc}
+use lib.ListN.{length, getD, take, drop, set, length-append, length-drop}
+use lib.Seq.{getD-append-add, getD-at, getD-drop, take-suc, length-take-le}
+use lib.Arith.{digits-div, digits-mod, mod-mul}
+use native.Mathlib.Nat.{add-zero, add-suc, suc-add, add-assoc, mod-one, pow-suc}
+use native.Mathlib.Numerals.{add-one}
+use native.Mathlib.Omega.{arith}
+use Rattle.wire.specs.Bytes.{num, big, splice, Bytes}
+
+pub length-big : (w v : ℕ) → length (big w v) ≡ w
+length-big zero v = refl
+length-big (suc w) v =
+    length-append (big w (v / 256)) (v % 256 ∷ []) ∙ ap (λ (n : ℕ). n + 1) (length-big w (v / 256)) ∙ add-one w
+
+-- two splices side by side are one
+pub splice-append : (at : ℕ) (a b l : List ℕ) → splice (at + length a) b (splice at a l) ≡ splice at (a ++ b) l
+splice-append at [] b l = ap (λ (n : ℕ). splice n b l) (add-zero at)
+splice-append at (x ∷ a) b l =
+    ap (λ (n : ℕ). splice n b (splice (suc at) a (set l at x))) (add-suc at (length a) ∙ sym (suc-add at (length a)))
+    ∙ splice-append (suc at) a b (set l at x)
+
+-- a number behind a prefix is read as from its own start
+pub num-append : (w i : ℕ) (p q : List ℕ) → num w (length p + i) (p ++ q) ≡ num w i q
+num-append zero i p q = refl
+num-append (suc w) i p q =
+    ap₂ (λ (n m : ℕ). n * 256 + getD (p ++ q) m 0) (num-append w i p q) (add-assoc (length p) i w)
+    ∙ ap (λ (n : ℕ). num w i q * 256 + n) (getD-append-add p q (i + w) 0)
+
+-- what w bytes keep of a number, read back
+pub num-big : (w v : ℕ) (q : List ℕ) → num w 0 (big w v ++ q) ≡ v % 256 ^ w
+num-big zero v q = sym (mod-one v)
+num-big (suc w) v q =
+    rw (append-assoc (big w (v / 256)) (v % 256 ∷ []) q)
+    (ap₂ (λ (n m : ℕ). n * 256 + m)
+    (num-big w (v / 256) (v % 256 ∷ q))
+    (getD-at (big w (v / 256)) (v % 256) q 0 (0 + w) (length-big w (v / 256) ∙ omega arith))
+    ∙ sym (mod-mul v (omega (arith, pow-lt-pos w)) (omega arith))
+    ∙ ap (λ (n : ℕ). v % n) (sym (pow-suc 256 w)))
+  where
+    pow-lt-pos : (k : ℕ) → 0 < 256 ^ k
+    pow-lt-pos zero = omega arith
+    pow-lt-pos (suc k) = rw (pow-suc 256 k) (omega (arith, pow-lt-pos k))
+
+-- the bytes of a number that was read are the bytes that it was read from
+pub big-num : (w o : ℕ) (d : List ℕ) → Bytes d → o + w ≤ length d → big w (num w o d) ≡ take w (drop o d)
+big-num zero o d b h = refl
+big-num (suc w) o d b h =
+    ap₂ (λ (n m : ℕ). big w n ++ (m ∷ [])) (digits-div (num w o d) (b (o + w))) (digits-mod (num w o d) (b (o + w)))
+    ∙ ap₂ (λ (l : List ℕ) (m : ℕ). l ++ (m ∷ [])) (big-num w o d b (omega (arith, add-suc o w))) (sym (getD-drop o d w 0))
+    ∙ sym (take-suc (drop o d) w 0 (rw (length-drop o d) (omega (arith, add-suc o w))))
+
+-- a number of w bytes is below 256 to the w
+pub num-lt : (w o : ℕ) (d : List ℕ) → Bytes d → num w o d < 256 ^ w
+num-lt zero o d b = omega arith
+num-lt (suc w) o d b = rw (pow-suc 256 w) (omega (arith, num-lt w o d b, b (o + w)))
+
+-- a number's first a bytes and its last b bytes
+pub num-split : (a b o : ℕ) (d : List ℕ) → num (a + b) o d ≡ num a o d * 256 ^ b + num b (o + a) d
+num-split a zero o d = ap (λ (w : ℕ). num w o d) (add-zero a) ∙ omega arith
+num-split a (suc b) o d =
+    ap (λ (w : ℕ). num w o d) (add-suc a b)
+    ∙ ap₂ (λ (m n : ℕ). m * 256 + getD d n 0) (num-split a b o d) (sym (add-assoc o a b))
+    ∙ rw (pow-suc 256 b) (omega arith)
+
+-- a turn of a loop that splices byte by byte: one more byte of s
+pub splice-more : (at i : ℕ) (s l : List ℕ) → i < length s → set (splice at (take i s) l) (at + i) (getD s i 0) ≡ splice at (take (i + 1) s) l
+splice-more at i s l h =
+    ap (λ (n : ℕ). set (splice at (take i s) l) (at + n) (getD s i 0)) (sym (length-take-le i s (omega arith)))
+    ∙ splice-append at (take i s) (getD s i 0 ∷ []) l
+    ∙ ap (λ (b : List ℕ). splice at b l) (sym (take-suc s i 0 h) ∙ ap (λ (n : ℕ). take n s) (sym (add-one i)))

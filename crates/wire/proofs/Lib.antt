@@ -1,0 +1,4 @@
+-- The laws of the wire that the crates above cite.
+pub mod ByteLaws
+pub mod TableLaws
+pub mod FirstLaws

@@ -1,0 +1,23 @@
+-- Big-endian numbers in a list of bytes, and writing over a part of a buffer.
+use Prim.Native.Nat.{ℕ, zero, suc, _+_, _*_, _/_, _%_, _<_}
+use mathlib.Core.List.{List, [], _∷_, _++_}
+use lib.ListN.{getD}
+use lib.Seq.{sets}
+
+-- the number in the w bytes of d from byte o on, most significant first (01: numbers are big-endian)
+abbrev pub num : ℕ → ℕ → List ℕ → ℕ
+num zero o d = 0
+num (suc w) o d = num w o d * 256 + getD d (o + w) 0
+
+-- the w bytes of the number v, most significant first
+abbrev pub big : ℕ → ℕ → List ℕ
+big zero v = []
+big (suc w) v = big w (v / 256) ++ (v % 256 ∷ [])
+
+-- buffer with bytes written over it from place at on; what would pass its end is left out
+abbrev pub splice : ℕ → List ℕ → List ℕ → List ℕ
+splice at bytes buffer = sets buffer at bytes
+
+-- every element of d is a byte
+abbrev pub Bytes : List ℕ → Type 0
+Bytes d = (i : ℕ) → getD d i 0 < 256

@@ -1,0 +1,21 @@
+-- Refusals in order: the first rule that is broken gives the number (01, "The first that applies is given").
+use Prim.Native.Nat.{ℕ}
+use mathlib.Core.Bool.{Bool, true, cond, not, _&&_}
+use mathlib.Core.List.{List, [], _∷_}
+use lib.Dec.{eqb}
+
+infix 10 _given-when_
+
+-- a refusal: its number, and whether its rule is broken
+pub data Refusal : Type 0 where
+  _given-when_ : ℕ → Bool → Refusal
+
+-- the number of the first broken rule, or 0 where none is
+abbrev pub first : List Refusal → ℕ
+first [] = 0
+first ((n given-when broken) ∷ rest) = cond broken n (first rest)
+
+-- whether no rule has the number 0, which says that none is broken
+abbrev pub numbered : List Refusal → Bool
+numbered [] = true
+numbered ((n given-when broken) ∷ rest) = not (eqb n 0) && numbered rest

@@ -1,0 +1,87 @@
+/*
+ * Altuvrin: what the proved reader answers to a datagram.
+ *
+ *     uint64_t answer = altuvrin_datagram(bytes, length);
+ *     if (altuvrin_number(answer) == ALTUVRIN_TAKEN)
+ *         forward(bytes, altuvrin_size(answer));
+ *
+ * Link with target/staticlib/libhost.a; no further library is needed.
+ */
+#ifndef ALTUVRIN_H
+#define ALTUVRIN_H
+
+#include <stddef.h>
+#include <stdint.h>
+
+#ifdef __cplusplus
+extern "C" {
+#endif
+
+/*
+ * The answer numbers of reading. The first that applies is given, in this order:
+ *     Transmitter  1 2 3 4 5 6 7 8 9
+ *     Signal       1 2 3 4 10 11 12 8 13 14 15
+ */
+enum altuvrin_answer {
+    /* A Link 16 Transmitter or Signal PDU; the size is that of the PDU. */
+    ALTUVRIN_TAKEN = 0,
+    /* Fewer than 12 bytes. */
+    ALTUVRIN_SHORT = 1,
+    /* The protocol version is neither 5 nor 6. */
+    ALTUVRIN_VERSION = 2,
+    /* The PDU type is neither 25 (Transmitter) nor 26 (Signal), or the family is not 4. */
+    ALTUVRIN_TYPE = 3,
+    /* The length field is not the datagram's length, or less than the fixed part:
+     * 104 bytes of a Transmitter, 32 of a Signal. */
+    ALTUVRIN_LENGTH = 4,
+    /* Category is not 21, input source not 8, major modulation not 7, detail not 0, or system
+     * not 8. */
+    ALTUVRIN_RADIO = 5,
+    /* The length of the modulation parameters is not 8. */
+    ALTUVRIN_MODULATION_LENGTH = 6,
+    /* The length of the antenna pattern is not 0. */
+    ALTUVRIN_PATTERN_LENGTH = 7,
+    /* A Transmitter is not 112 bytes, or a Signal is not 32 bytes and its data bytes, filled to a
+     * multiple of 4. */
+    ALTUVRIN_PDU_SIZE = 8,
+    /* TSA level not 0 to 4, primary mode not 1 or 2, secondary mode not 0 to 3, synchronization
+     * state not 2 or 3, or a synchronization ID other than zero at levels 0 to 2. */
+    ALTUVRIN_MODULATION = 9,
+    /* The top two bits of the encoding are not 1. */
+    ALTUVRIN_ENCODING = 10,
+    /* The TDL type is not 100. */
+    ALTUVRIN_TDL_TYPE = 11,
+    /* The data length, in bits, is not a multiple of 8, or under 160. */
+    ALTUVRIN_DATA_LENGTH = 12,
+    /* NPG above 511, net above 127, TSEC or MSEC neither 0 to 127 nor 255, message type above 7,
+     * slot above 98,303, epoch above 112, or slot above 45,151 in epoch 112. */
+    ALTUVRIN_NETWORK_HEADER = 13,
+    /* The body of message type 0 is not 6 bytes and whole words of 10. */
+    ALTUVRIN_BODY_SIZE = 14,
+    /* More than 12 words in message type 0, or more than 256 bytes in types 1 to 7. */
+    ALTUVRIN_BODY_LIMIT = 15
+};
+
+/*
+ * Reads `length` bytes as one PDU. The bytes are not changed or kept; NULL with length 0 is an
+ * empty datagram. The answer is taken apart by altuvrin_number and altuvrin_size.
+ */
+uint64_t altuvrin_datagram(const uint8_t *bytes, size_t length);
+
+/* The number of an answer: one of altuvrin_answer. */
+static inline uint32_t altuvrin_number(uint64_t answer)
+{
+    return (uint32_t)(answer >> 32);
+}
+
+/* The size of what was taken, in bytes; 0 where it was refused. */
+static inline uint32_t altuvrin_size(uint64_t answer)
+{
+    return (uint32_t)(answer & UINT32_MAX);
+}
+
+#ifdef __cplusplus
+}
+#endif
+
+#endif

@@ -1,0 +1,75 @@
+#include "check.h"
+
+#include "../altuvrin.h"
+
+#include <stdbool.h>
+#include <stdio.h>
+#include <stdlib.h>
+
+static const char *current;
+static bool current_failed;
+static unsigned passed;
+static unsigned failed;
+
+void check_begin(const char *what)
+{
+    current = what;
+    current_failed = false;
+}
+
+void check_end(void)
+{
+    if (current_failed)
+        failed++;
+    else
+        passed++;
+}
+
+static void print_failure(const uint8_t *bytes, size_t length, uint64_t answer, uint32_t number,
+                          uint32_t size)
+{
+    printf("FAILED: %s\n", current);
+    printf("  expected: number %u, size %u\n", number, size);
+    printf("  got:      number %u, size %u\n", altuvrin_number(answer), altuvrin_size(answer));
+    printf("  datagram: %zu bytes ", length);
+    for (size_t i = 0; i < length; i++)
+        printf("%02x", bytes[i]);
+    printf("\n");
+}
+
+static void compare(const uint8_t *bytes, size_t length, uint32_t number, uint32_t size)
+{
+    uint64_t answer = altuvrin_datagram(bytes, length);
+    if (altuvrin_number(answer) == number && altuvrin_size(answer) == size)
+        return;
+    if (!current_failed)
+        print_failure(bytes, length, answer, number, size);
+    current_failed = true;
+}
+
+void sample(const struct datagram *datagram, uint32_t number)
+{
+    uint32_t size = number == ALTUVRIN_TAKEN ? (uint32_t)datagram->length : 0;
+    compare(datagram->bytes, datagram->length, number, size);
+}
+
+void check(const char *what, const struct datagram *datagram, uint32_t number)
+{
+    check_begin(what);
+    sample(datagram, number);
+    check_end();
+}
+
+void check_bytes(const char *what, const uint8_t *bytes, size_t length, uint32_t number,
+                 uint32_t size)
+{
+    check_begin(what);
+    compare(bytes, length, number, size);
+    check_end();
+}
+
+int check_report(void)
+{
+    printf("%u passed, %u failed\n", passed, failed);
+    return failed == 0 ? EXIT_SUCCESS : EXIT_FAILURE;
+}

@@ -1,0 +1,30 @@
+/* Counted checks on the archive's answers. */
+#ifndef CHECK_H
+#define CHECK_H
+
+#include "../datagrams.h"
+
+#include <stddef.h>
+#include <stdint.h>
+
+/*
+ * One check holds for all samples between its begin and its end; the first sample that fails is
+ * printed, with what was expected and the datagram in hex.
+ */
+void check_begin(const char *what);
+void check_end(void);
+
+/* A sample: the archive answers this number, and the datagram's length as size where it is 0. */
+void sample(const struct datagram *datagram, uint32_t number);
+
+/* A check of one sample. */
+void check(const char *what, const struct datagram *datagram, uint32_t number);
+
+/* A check of one answer to plain bytes. */
+void check_bytes(const char *what, const uint8_t *bytes, size_t length, uint32_t number,
+                 uint32_t size);
+
+/* Prints the counts as the last line; the status to exit with. */
+int check_report(void);
+
+#endif

@@ -1,0 +1,12 @@
+/* Tests of the archive through its C interface. */
+#include "check.h"
+#include "tests.h"
+
+int main(void)
+{
+    test_edges();
+    test_fields();
+    test_sizes();
+    test_order();
+    return check_report();
+}

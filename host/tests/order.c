@@ -1,0 +1,147 @@
+/*
+ * The order of refusals: of the rules that a datagram breaks, the first in the order gives the
+ * number (document 01, "The numbers"). Rules are broken from the last to the first, because the
+ * later ones speak of what lies deeper in the datagram.
+ */
+#include "../altuvrin.h"
+#include "check.h"
+#include "tests.h"
+
+#include <stdio.h>
+
+static struct datagram datagram;
+
+static void make_signal_of_1_word(void)
+{
+    make_words(&datagram, 1);
+}
+
+static void make_level_3_transmitter(void)
+{
+    make_transmitter(&datagram);
+}
+
+static void cut_to_11_bytes(void)
+{
+    datagram.length = START_SIZE - 1;
+}
+
+static void break_length(void)
+{
+    put(&datagram, LENGTH, get(&datagram, LENGTH) + 1);
+}
+
+static void break_data_length(void)
+{
+    put(&datagram, DATA_LENGTH, get(&datagram, DATA_LENGTH) + 1);
+}
+
+static void break_size(void)
+{
+    resize(&datagram, datagram.length + FILL_MULTIPLE);
+}
+
+static void break_words(void)
+{
+    resize_body(&datagram, body_size(&datagram) + 1);
+}
+
+static void make_13_words(void)
+{
+    make_words(&datagram, WORDS_MAX + 1);
+}
+
+/* Breaks the rule of one number: by a call, or by a value in a field where there is no call. */
+struct breaker {
+    uint32_t number;
+    void (*call)(void);
+    struct field field;
+    uint32_t value;
+};
+
+/* A PDU kind: a valid PDU of it, and a breaker for each number in the order of refusals. */
+struct kind {
+    const char *name;
+    void (*make)(void);
+    const struct breaker *breakers;
+    size_t count;
+};
+
+static void break_rule(const struct breaker *breaker)
+{
+    if (breaker->call != NULL)
+        breaker->call();
+    else
+        put(&datagram, breaker->field, breaker->value);
+}
+
+/* One check: the rules of this set are broken; bit i stands for breaker i. */
+static void check_set(const struct kind *kind, uint32_t set)
+{
+    char what[80];
+    uint32_t first = ALTUVRIN_TAKEN;
+    int length = snprintf(what, sizeof what, "%s that breaks", kind->name);
+    kind->make();
+    for (size_t i = kind->count; i-- > 0;) {
+        if ((set >> i & 1) == 0)
+            continue;
+        break_rule(&kind->breakers[i]);
+        first = kind->breakers[i].number;
+        length += snprintf(what + length, sizeof what - (size_t)length, " %u", first);
+    }
+    check(what, &datagram, first);
+}
+
+/* Each rule alone, with each one later rule, and with all later rules. */
+static void check_order(const struct kind *kind)
+{
+    uint32_t end = (uint32_t)1 << kind->count;
+    for (uint32_t first = 1; first < end; first <<= 1) {
+        check_set(kind, first);
+        for (uint32_t later = first << 1; later < end; later <<= 1)
+            check_set(kind, first | later);
+        check_set(kind, end - first);
+    }
+}
+
+static void test_transmitter_order(void)
+{
+    const struct breaker breakers[] = {
+        {ALTUVRIN_SHORT, cut_to_11_bytes, {0, 0}, 0},
+        {ALTUVRIN_VERSION, NULL, VERSION, FIRST_VERSION - 1},
+        {ALTUVRIN_TYPE, NULL, FAMILY, RADIO_FAMILY + 1},
+        {ALTUVRIN_LENGTH, break_length, {0, 0}, 0},
+        {ALTUVRIN_RADIO, NULL, SYSTEM, LINK_16_SYSTEM + 1},
+        {ALTUVRIN_MODULATION_LENGTH, NULL, MODULATION_LENGTH, LINK_16_MODULATION_LENGTH + 8},
+        {ALTUVRIN_PATTERN_LENGTH, NULL, PATTERN_LENGTH, NO_PATTERN + 1},
+        {ALTUVRIN_PDU_SIZE, break_size, {0, 0}, 0},
+        {ALTUVRIN_MODULATION, NULL, PRIMARY_MODE, LAST_PRIMARY_MODE + 1},
+    };
+    const struct kind kind = {"Transmitter", make_level_3_transmitter, breakers, COUNT(breakers)};
+    check_order(&kind);
+}
+
+static void test_signal_order(void)
+{
+    const struct breaker breakers[] = {
+        {ALTUVRIN_SHORT, cut_to_11_bytes, {0, 0}, 0},
+        {ALTUVRIN_VERSION, NULL, VERSION, LAST_VERSION + 1},
+        {ALTUVRIN_TYPE, NULL, FAMILY, RADIO_FAMILY - 1},
+        {ALTUVRIN_LENGTH, break_length, {0, 0}, 0},
+        {ALTUVRIN_ENCODING, NULL, ENCODING, LAST_ENCODING + 1},
+        {ALTUVRIN_TDL_TYPE, NULL, TDL_TYPE, LINK_16_TDL_TYPE + 1},
+        {ALTUVRIN_DATA_LENGTH, break_data_length, {0, 0}, 0},
+        {ALTUVRIN_PDU_SIZE, break_size, {0, 0}, 0},
+        {ALTUVRIN_NETWORK_HEADER, NULL, NET, LAST_NET + 1},
+        {ALTUVRIN_BODY_SIZE, break_words, {0, 0}, 0},
+        {ALTUVRIN_BODY_LIMIT, make_13_words, {0, 0}, 0},
+    };
+    const struct kind kind = {"Signal", make_signal_of_1_word, breakers, COUNT(breakers)};
+    check_order(&kind);
+}
+
+void test_order(void)
+{
+    test_transmitter_order();
+    test_signal_order();
+}

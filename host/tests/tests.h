@@ -1,0 +1,17 @@
+/* The groups of tests; each counts its own checks. */
+#ifndef TESTS_H
+#define TESTS_H
+
+/* Document 01, "Sizes and edges", as far as it speaks of datagrams. */
+void test_edges(void);
+
+/* Each rule of each field by itself, over all values that the field can have. */
+void test_fields(void);
+
+/* Lengths: of the datagram, of the data and of the body. */
+void test_sizes(void);
+
+/* Which refusal comes first where a datagram breaks several rules. */
+void test_order(void);
+
+#endif

@@ -1,0 +1,29 @@
+//! Bytes as lower-case hex; `-` stands for no bytes, so that they make a word of a command.
+
+const NO_BYTES: &str = "-";
+
+pub fn encode(bytes: &[u8]) -> String {
+    if bytes.is_empty() {
+        return NO_BYTES.to_string();
+    }
+    bytes.iter().map(|byte| format!("{byte:02x}")).collect()
+}
+
+/// Nothing where the text is not hex with two digits for each byte.
+pub fn decode(text: &str) -> Option<Vec<u8>> {
+    if text == NO_BYTES {
+        return Some(Vec::new());
+    }
+    let digits: Option<Vec<u8>> = text.chars().map(digit).collect();
+    let digits = digits.filter(|digits| !digits.is_empty() && digits.len() % 2 == 0)?;
+    Some(
+        digits
+            .chunks(2)
+            .map(|pair| pair[0] << 4 | pair[1])
+            .collect(),
+    )
+}
+
+fn digit(character: char) -> Option<u8> {
+    character.to_digit(16).map(|value| value as u8)
+}

@@ -1,0 +1,99 @@
+//! Places by byte number (document 01, "Bytes 0 to 19, both PDUs", "Transmitter, 112 bytes" and
+//! "Signal"): the fields that have a rule, the padding, and the written form that comes of it.
+//! The reader and the writer do not use them, so that each is a check on the other.
+
+use crate::pdu;
+use std::ops::Range;
+
+/// A field: its first byte, and how many bytes it has.
+#[derive(Clone, Copy)]
+pub struct Field {
+    pub at: usize,
+    pub width: usize,
+}
+
+const fn field(at: usize, width: usize) -> Field {
+    Field { at, width }
+}
+
+impl Field {
+    fn range(self) -> Range<usize> {
+        self.at..self.at + self.width
+    }
+
+    /// The number in the field; nothing where the bytes end before it does.
+    pub fn get(self, bytes: &[u8]) -> Option<u64> {
+        let number = |sum, &byte| sum << 8 | u64::from(byte);
+        Some(bytes.get(self.range())?.iter().fold(0, number))
+    }
+
+    /// Puts the low bits of a number; the bytes reach to the field's end.
+    pub fn put(self, bytes: &mut [u8], value: u64) {
+        let value = value.to_be_bytes();
+        bytes[self.range()].copy_from_slice(&value[value.len() - self.width..]);
+    }
+}
+
+pub const VERSION: Field = field(0, 1);
+pub const PDU_TYPE: Field = field(2, 1);
+pub const FAMILY: Field = field(3, 1);
+pub const LENGTH: Field = field(8, 2);
+
+pub const CATEGORY: Field = field(24, 1);
+pub const INPUT_SOURCE: Field = field(29, 1);
+pub const PATTERN_LENGTH: Field = field(70, 2);
+pub const MAJOR: Field = field(90, 2);
+pub const DETAIL: Field = field(92, 2);
+pub const SYSTEM: Field = field(94, 2);
+pub const MODULATION_LENGTH: Field = field(100, 1);
+pub const TSA_LEVEL: Field = field(104, 1);
+pub const PRIMARY_MODE: Field = field(105, 1);
+pub const SECONDARY_MODE: Field = field(106, 1);
+pub const SYNC_STATE: Field = field(107, 1);
+pub const SYNC_ID: Field = field(108, 4);
+
+pub const ENCODING: Field = field(20, 2);
+pub const TDL_TYPE: Field = field(22, 2);
+pub const DATA_LENGTH: Field = field(28, 2);
+pub const NPG: Field = field(32, 2);
+pub const NET: Field = field(34, 1);
+pub const TSEC: Field = field(35, 1);
+pub const MSEC: Field = field(36, 1);
+pub const MESSAGE_TYPE: Field = field(37, 1);
+pub const SLOT_ID: Field = field(40, 4);
+/// The epoch is the first byte of the slot ID.
+pub const EPOCH: Field = field(40, 1);
+
+/// Bits 17 to 23 of the slot ID are padding.
+pub const SLOT_ID_PADDING: u64 = 0x00FE_0000;
+
+const START_PADDING: Field = field(10, 2);
+const TRANSMITTER_PADDING: [Field; 3] = [START_PADDING, field(30, 2), field(101, 3)];
+const SIGNAL_PADDING: [Field; 2] = [START_PADDING, field(38, 2)];
+
+/// A taken datagram as the writer gives it: padding, the fill included, as zero.
+pub fn written_form(datagram: &[u8]) -> Vec<u8> {
+    let mut form = datagram.to_vec();
+    if PDU_TYPE.get(datagram) == Some(u64::from(pdu::TRANSMITTER_TYPE)) {
+        clear(&mut form, &TRANSMITTER_PADDING);
+    } else {
+        clear(&mut form, &SIGNAL_PADDING);
+        clear_signal(&mut form);
+    }
+    form
+}
+
+fn clear(bytes: &mut [u8], padding: &[Field]) {
+    for field in padding {
+        field.put(bytes, 0);
+    }
+}
+
+/// Clears the slot ID's padding and the fill.
+fn clear_signal(bytes: &mut [u8]) {
+    let known = "a taken Signal has its fields";
+    let slot_id = SLOT_ID.get(bytes).expect(known);
+    SLOT_ID.put(bytes, slot_id & !SLOT_ID_PADDING);
+    let data_bytes = DATA_LENGTH.get(bytes).expect(known) as usize / 8;
+    bytes[pdu::SIGNAL_FIXED_SIZE + data_bytes..].fill(0);
+}

@@ -1,0 +1,206 @@
+//! Checks of the second program on itself: its reader, its writer and the written form agree.
+
+use crate::check::{Claim, Report};
+use crate::generate::Generator;
+use crate::layout::{self, Field};
+use crate::pdu::{Header, Modulation, NetworkHeader, Pdu, Refusal, Signal, Transmitter};
+use crate::read::read;
+use crate::write::write;
+use crate::{hex, writer_check};
+
+/// What an output holds before a write, and room past the PDU that a write leaves alone.
+pub const MARK: u8 = 0xA5;
+const SPARE: usize = 8;
+
+/// Claims about every datagram that is taken.
+pub struct SelfChecks {
+    written: Claim,
+    same_record: Claim,
+    own_form: Claim,
+    only_named: Claim,
+    short_output: Claim,
+}
+
+impl SelfChecks {
+    pub fn new() -> Self {
+        SelfChecks {
+            written: Claim::new("reading, then writing, gives the written form"),
+            same_record: Claim::new("the written form reads as the same record"),
+            own_form: Claim::new("the written form is its own written form"),
+            only_named: Claim::new("a write changes only the bytes of the PDU"),
+            short_output: Claim::new("an output too short is refused and left alone"),
+        }
+    }
+
+    /// Tries the claims on one datagram; one that is refused has no part in them.
+    pub fn datagram(&mut self, datagram: &[u8]) {
+        let Ok(pdu) = read(datagram) else {
+            return;
+        };
+        let describe = || hex::encode(datagram);
+        let form = layout::written_form(datagram);
+        let size = form.len();
+        let mut output = vec![MARK; size + SPARE];
+        let written = write(&pdu, &mut output);
+        let (start, spare) = output.split_at(size);
+        self.written
+            .sample(written == Ok(size) && start == form, describe);
+        self.only_named.sample(spare == [MARK; SPARE], describe);
+        self.same_record.sample(read(&form) == Ok(pdu), describe);
+        self.own_form
+            .sample(layout::written_form(&form) == form, describe);
+        let mut output = vec![MARK; size - 1];
+        let refused = write(&pdu, &mut output) == Err(Refusal::Output);
+        let untouched = output.iter().all(|&byte| byte == MARK);
+        self.short_output.sample(refused && untouched, describe);
+    }
+
+    /// Counts these claims and those that need no datagram.
+    pub fn finish(self, generator: &mut Generator, report: &mut Report) {
+        report.count(&self.written);
+        report.count(&self.same_record);
+        report.count(&self.own_form);
+        report.count(&self.only_named);
+        report.count(&self.short_output);
+        let (datagram, transmitter) = known_transmitter();
+        check_known(
+            "a known Transmitter",
+            &datagram,
+            &Pdu::Transmitter(transmitter),
+            report,
+        );
+        let (datagram, signal) = known_signal();
+        let body = &datagram[KNOWN_BODY_START..KNOWN_BODY_END];
+        check_known(
+            "a known Signal",
+            &datagram,
+            &Pdu::Signal(signal, body),
+            report,
+        );
+        writer_check::run(generator, report);
+    }
+}
+
+/// The datagram reads as this record, and the record writes as the datagram's written form.
+fn check_known(what: &str, datagram: &[u8], pdu: &Pdu, report: &mut Report) {
+    let mut claim = Claim::new(format!("{what}, field by field"));
+    let mut output = vec![MARK; datagram.len()];
+    let written = write(pdu, &mut output);
+    claim.sample(read(datagram) == Ok(*pdu), || {
+        format!("reads as {:?}", read(datagram))
+    });
+    claim.sample(written == Ok(datagram.len()), || format!("{written:?}"));
+    claim.sample(output == layout::written_form(datagram), || {
+        hex::encode(&output)
+    });
+    report.count(&claim);
+}
+
+/// Each byte is its own number, but for the fields named. So a record shows where the reader
+/// found each of its fields.
+fn numbered_bytes(size: usize, fields: &[(Field, u64)]) -> Vec<u8> {
+    let mut bytes: Vec<u8> = (0..size).map(|at| at as u8).collect();
+    for &(field, value) in fields {
+        field.put(&mut bytes, value);
+    }
+    bytes
+}
+
+/// The header of numbered bytes, as both known datagrams have it.
+const KNOWN_HEADER: Header = Header {
+    version: 6,
+    exercise: 1,
+    timestamp: 0x0405_0607,
+    site: 0x0C0D,
+    application: 0x0E0F,
+    entity: 0x1011,
+    radio: 0x1213,
+};
+
+fn known_transmitter() -> (Vec<u8>, Transmitter) {
+    let fields = [
+        (layout::VERSION, 6),
+        (layout::PDU_TYPE, 25),
+        (layout::FAMILY, 4),
+        (layout::LENGTH, 112),
+        (layout::CATEGORY, 21),
+        (layout::INPUT_SOURCE, 8),
+        (layout::PATTERN_LENGTH, 0),
+        (layout::MAJOR, 7),
+        (layout::DETAIL, 0),
+        (layout::SYSTEM, 8),
+        (layout::MODULATION_LENGTH, 8),
+        (layout::TSA_LEVEL, 4),
+        (layout::PRIMARY_MODE, 1),
+        (layout::SECONDARY_MODE, 2),
+        (layout::SYNC_STATE, 3),
+    ];
+    (numbered_bytes(112, &fields), KNOWN_TRANSMITTER)
+}
+
+const KNOWN_TRANSMITTER: Transmitter = Transmitter {
+    header: KNOWN_HEADER,
+    entity_kind: 0x14,
+    domain: 0x15,
+    country: 0x1617,
+    nomenclature_version: 0x19,
+    nomenclature: 0x1A1B,
+    transmit_state: 0x1C,
+    antenna_location: [
+        0x2021_2223_2425_2627,
+        0x2829_2A2B_2C2D_2E2F,
+        0x3031_3233_3435_3637,
+    ],
+    relative_location: [0x3839_3A3B, 0x3C3D_3E3F, 0x4041_4243],
+    pattern_type: 0x4445,
+    frequency: 0x4849_4A4B_4C4D_4E4F,
+    bandwidth: 0x5051_5253,
+    power: 0x5455_5657,
+    spread_spectrum: 0x5859,
+    crypto_system: 0x6061,
+    key_id: 0x6263,
+    modulation: Modulation {
+        tsa_level: 4,
+        primary_mode: 1,
+        secondary_mode: 2,
+        sync_state: 3,
+        sync_id: 0x6C6D_6E6F,
+    },
+};
+
+/// The body of the known Signal: 6 bytes and one word.
+const KNOWN_BODY_START: usize = 52;
+const KNOWN_BODY_END: usize = 68;
+
+fn known_signal() -> (Vec<u8>, Signal) {
+    let fields = [
+        (layout::VERSION, 6),
+        (layout::PDU_TYPE, 26),
+        (layout::FAMILY, 4),
+        (layout::LENGTH, 68),
+        (layout::ENCODING, 0x5415),
+        (layout::TDL_TYPE, 100),
+        (layout::DATA_LENGTH, 8 * 36),
+        (layout::NPG, 0x0121),
+        (layout::MESSAGE_TYPE, 0),
+    ];
+    (numbered_bytes(KNOWN_BODY_END, &fields), KNOWN_SIGNAL)
+}
+
+const KNOWN_SIGNAL: Signal = Signal {
+    header: KNOWN_HEADER,
+    encoding: 0x1415,
+    sample_rate: 0x1819_1A1B,
+    samples: 0x1E1F,
+    network: NetworkHeader {
+        npg: 0x0121,
+        net: 0x22,
+        tsec: 0x23,
+        msec: 0x24,
+        message_type: 0,
+        // Of the slot ID 0x28292A2B.
+        slot: 0x0001_2A2B,
+        epoch: 0x28,
+        transmit_time: 0x2C2D_2E2F_3031_3233,
+    },
+};
