@@ -62,8 +62,8 @@ void make_transmitter(struct datagram *datagram)
 void make_signal(struct datagram *datagram, uint32_t message_type, size_t body_bytes)
 {
     const struct setting settings[] = {
-        {VERSION, LAST_VERSION},      {PDU_TYPE, SIGNAL_TYPE},      {FAMILY, RADIO_FAMILY},
-        {ENCODING, FIRST_ENCODING},   {TDL_TYPE, LINK_16_TDL_TYPE}, {MESSAGE_TYPE, message_type},
+        {VERSION, LAST_VERSION},    {PDU_TYPE, SIGNAL_TYPE},      {FAMILY, RADIO_FAMILY},
+        {ENCODING, FIRST_ENCODING}, {TDL_TYPE, LINK_16_TDL_TYPE}, {MESSAGE_TYPE, message_type},
     };
     make(datagram, SIGNAL_FIXED_SIZE + NETWORK_HEADER_SIZE, settings, COUNT(settings));
     resize_body(datagram, body_bytes);

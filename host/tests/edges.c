@@ -5,7 +5,7 @@
 
 static struct datagram datagram;
 
-/* A Transmitter or Signal start of 12 bytes: version, type, family and length field alone. */
+/* The first 12 bytes of a Signal, with a length field of 12. */
 static void start(uint32_t version)
 {
     make_words(&datagram, 0);

@@ -8,39 +8,49 @@
 
 static struct datagram datagram;
 
-/* A field that is taken from first to last, and at 255 where that is allowed besides. */
-struct rule {
-    const char *what;
-    struct field field;
+/* Both ends included. */
+struct range {
     uint32_t first;
     uint32_t last;
-    uint32_t number;
-    bool or_255;
 };
 
-static bool allows(const struct rule *rule, uint32_t value)
+static bool is_in(uint32_t value, struct range range)
 {
-    return (rule->first <= value && value <= rule->last) ||
-           (rule->or_255 && value == NO_SECURITY_SETTING);
+    return range.first <= value && value <= range.last;
 }
 
-/* One check: every value of the field in this datagram. */
-static void check_rule(const struct rule *rule)
+/* One check: of all values of the field, those in either range are taken. */
+static void check_ranges(const char *what, struct field field, struct range taken,
+                         struct range also, uint32_t number)
 {
-    uint32_t before = get(&datagram, rule->field);
-    check_begin(rule->what);
-    for (uint32_t value = 0; value < 1u << (8 * rule->field.width); value++) {
-        put(&datagram, rule->field, value);
-        sample(&datagram, allows(rule, value) ? ALTUVRIN_TAKEN : rule->number);
+    uint32_t before = get(&datagram, field);
+    check_begin(what);
+    for (uint32_t value = 0; value < 1u << (8 * field.width); value++) {
+        put(&datagram, field, value);
+        sample(&datagram, is_in(value, taken) || is_in(value, also) ? ALTUVRIN_TAKEN : number);
     }
     check_end();
-    put(&datagram, rule->field, before);
+    put(&datagram, field, before);
 }
 
-static void check_rules(const struct rule *rules, size_t count)
+static void check_range(const char *what, struct field field, uint32_t first, uint32_t last,
+                        uint32_t number)
 {
-    for (size_t i = 0; i < count; i++)
-        check_rule(&rules[i]);
+    const struct range taken = {first, last};
+    check_ranges(what, field, taken, taken, number);
+}
+
+static void check_value(const char *what, struct field field, uint32_t value, uint32_t number)
+{
+    check_range(what, field, value, value, number);
+}
+
+/* TSEC and MSEC. */
+static void check_security_setting(const char *what, struct field field)
+{
+    const struct range set = {0, LAST_SECURITY_SETTING};
+    const struct range none = {NO_SECURITY_SETTING, NO_SECURITY_SETTING};
+    check_ranges(what, field, set, none, ALTUVRIN_NETWORK_HEADER);
 }
 
 /* Types 25 and 26 are left out: each makes the bytes a PDU of the other kind. */
@@ -59,49 +69,40 @@ static void check_types(const char *what)
 
 static void test_transmitter_rules(void)
 {
-    const struct rule rules[] = {
-        {"Transmitter: version", VERSION, FIRST_VERSION, LAST_VERSION, ALTUVRIN_VERSION, false},
-        {"Transmitter: family", FAMILY, RADIO_FAMILY, RADIO_FAMILY, ALTUVRIN_TYPE, false},
-        {"Transmitter: length field", LENGTH, TRANSMITTER_SIZE, TRANSMITTER_SIZE,
-         ALTUVRIN_LENGTH, false},
-        {"category", CATEGORY, LINK_16_CATEGORY, LINK_16_CATEGORY, ALTUVRIN_RADIO, false},
-        {"input source", INPUT_SOURCE, LINK_16_INPUT_SOURCE, LINK_16_INPUT_SOURCE,
-         ALTUVRIN_RADIO, false},
-        {"major", MAJOR, LINK_16_MAJOR, LINK_16_MAJOR, ALTUVRIN_RADIO, false},
-        {"detail", DETAIL, LINK_16_DETAIL, LINK_16_DETAIL, ALTUVRIN_RADIO, false},
-        {"system", SYSTEM, LINK_16_SYSTEM, LINK_16_SYSTEM, ALTUVRIN_RADIO, false},
-        {"modulation length", MODULATION_LENGTH, LINK_16_MODULATION_LENGTH,
-         LINK_16_MODULATION_LENGTH, ALTUVRIN_MODULATION_LENGTH, false},
-        {"pattern length", PATTERN_LENGTH, NO_PATTERN, NO_PATTERN, ALTUVRIN_PATTERN_LENGTH,
-         false},
-        {"TSA level", TSA_LEVEL, 0, LAST_TSA_LEVEL, ALTUVRIN_MODULATION, false},
-        {"primary mode", PRIMARY_MODE, FIRST_PRIMARY_MODE, LAST_PRIMARY_MODE,
-         ALTUVRIN_MODULATION, false},
-        {"secondary mode", SECONDARY_MODE, 0, LAST_SECONDARY_MODE, ALTUVRIN_MODULATION, false},
-        {"synchronization state", SYNC_STATE, COARSE, FINE, ALTUVRIN_MODULATION, false},
-    };
     make_transmitter(&datagram);
-    check_rules(rules, COUNT(rules));
+    check_range("Transmitter: version", VERSION, FIRST_VERSION, LAST_VERSION, ALTUVRIN_VERSION);
     check_types("Transmitter: type");
+    check_value("Transmitter: family", FAMILY, RADIO_FAMILY, ALTUVRIN_TYPE);
+    check_value("Transmitter: length field", LENGTH, TRANSMITTER_SIZE, ALTUVRIN_LENGTH);
+    check_value("category", CATEGORY, LINK_16_CATEGORY, ALTUVRIN_RADIO);
+    check_value("input source", INPUT_SOURCE, LINK_16_INPUT_SOURCE, ALTUVRIN_RADIO);
+    check_value("major", MAJOR, LINK_16_MAJOR, ALTUVRIN_RADIO);
+    check_value("detail", DETAIL, LINK_16_DETAIL, ALTUVRIN_RADIO);
+    check_value("system", SYSTEM, LINK_16_SYSTEM, ALTUVRIN_RADIO);
+    check_value("modulation length", MODULATION_LENGTH, LINK_16_MODULATION_LENGTH,
+                ALTUVRIN_MODULATION_LENGTH);
+    check_value("pattern length", PATTERN_LENGTH, NO_PATTERN, ALTUVRIN_PATTERN_LENGTH);
+    check_range("TSA level", TSA_LEVEL, 0, LAST_TSA_LEVEL, ALTUVRIN_MODULATION);
+    check_range("primary mode", PRIMARY_MODE, FIRST_PRIMARY_MODE, LAST_PRIMARY_MODE,
+                ALTUVRIN_MODULATION);
+    check_range("secondary mode", SECONDARY_MODE, 0, LAST_SECONDARY_MODE, ALTUVRIN_MODULATION);
+    check_range("synchronization state", SYNC_STATE, COARSE, FINE, ALTUVRIN_MODULATION);
 }
 
 static void test_signal_rules(void)
 {
-    const struct rule rules[] = {
-        {"Signal: version", VERSION, FIRST_VERSION, LAST_VERSION, ALTUVRIN_VERSION, false},
-        {"Signal: family", FAMILY, RADIO_FAMILY, RADIO_FAMILY, ALTUVRIN_TYPE, false},
-        {"Signal: length field", LENGTH, 60, 60, ALTUVRIN_LENGTH, false},
-        {"encoding", ENCODING, FIRST_ENCODING, LAST_ENCODING, ALTUVRIN_ENCODING, false},
-        {"TDL type", TDL_TYPE, LINK_16_TDL_TYPE, LINK_16_TDL_TYPE, ALTUVRIN_TDL_TYPE, false},
-        {"NPG", NPG, 0, LAST_NPG, ALTUVRIN_NETWORK_HEADER, false},
-        {"net", NET, 0, LAST_NET, ALTUVRIN_NETWORK_HEADER, false},
-        {"TSEC", TSEC, 0, LAST_SECURITY_SETTING, ALTUVRIN_NETWORK_HEADER, true},
-        {"MSEC", MSEC, 0, LAST_SECURITY_SETTING, ALTUVRIN_NETWORK_HEADER, true},
-        {"message type", MESSAGE_TYPE, 0, LAST_MESSAGE_TYPE, ALTUVRIN_NETWORK_HEADER, false},
-    };
     make_words(&datagram, 0);
-    check_rules(rules, COUNT(rules));
+    check_range("Signal: version", VERSION, FIRST_VERSION, LAST_VERSION, ALTUVRIN_VERSION);
     check_types("Signal: type");
+    check_value("Signal: family", FAMILY, RADIO_FAMILY, ALTUVRIN_TYPE);
+    check_value("Signal: length field", LENGTH, 60, ALTUVRIN_LENGTH);
+    check_range("encoding", ENCODING, FIRST_ENCODING, LAST_ENCODING, ALTUVRIN_ENCODING);
+    check_value("TDL type", TDL_TYPE, LINK_16_TDL_TYPE, ALTUVRIN_TDL_TYPE);
+    check_range("NPG", NPG, 0, LAST_NPG, ALTUVRIN_NETWORK_HEADER);
+    check_range("net", NET, 0, LAST_NET, ALTUVRIN_NETWORK_HEADER);
+    check_security_setting("TSEC", TSEC);
+    check_security_setting("MSEC", MSEC);
+    check_range("message type", MESSAGE_TYPE, 0, LAST_MESSAGE_TYPE, ALTUVRIN_NETWORK_HEADER);
 }
 
 /* One check: each single bit of the synchronization ID, and none, at this level. */
@@ -128,7 +129,7 @@ static void test_ids(void)
         check_ids_at(what[level], level);
 }
 
-/* One check: every slot in this epoch; none is taken past last, counted as a number of slots. */
+/* One check: of all slots that 17 bits can tell, the first so many are taken in this epoch. */
 static void check_slots(const char *what, uint32_t epoch, uint32_t taken)
 {
     make_words(&datagram, 0);
@@ -154,18 +155,12 @@ static void test_slots(void)
     check_end();
 }
 
-/* A run of bytes, the last included. */
-struct run {
-    size_t first;
-    size_t last;
-};
-
-/* One check: the runs may hold anything, byte by byte and all together. */
-static void check_runs(const char *what, const struct run *runs, size_t count)
+/* One check: these bytes may hold anything, one by one and all together. */
+static void check_any(const char *what, const struct range *bytes, size_t count)
 {
     check_begin(what);
     for (size_t i = 0; i < count; i++) {
-        for (size_t at = runs[i].first; at <= runs[i].last; at++) {
+        for (size_t at = bytes[i].first; at <= bytes[i].last; at++) {
             uint8_t before = datagram.bytes[at];
             datagram.bytes[at] = (uint8_t)~before;
             sample(&datagram, ALTUVRIN_TAKEN);
@@ -173,35 +168,35 @@ static void check_runs(const char *what, const struct run *runs, size_t count)
         }
     }
     for (size_t i = 0; i < count; i++)
-        memset(datagram.bytes + runs[i].first, 0xFF, runs[i].last - runs[i].first + 1);
+        memset(datagram.bytes + bytes[i].first, 0xFF, bytes[i].last - bytes[i].first + 1);
     sample(&datagram, ALTUVRIN_TAKEN);
     check_end();
 }
 
 static void test_padding(void)
 {
-    static const struct run transmitter[] = {{10, 11}, {30, 31}, {101, 103}};
-    static const struct run signal[] = {{10, 11}, {38, 39}, {58, 59}};
+    static const struct range transmitter[] = {{10, 11}, {30, 31}, {101, 103}};
+    static const struct range signal[] = {{10, 11}, {38, 39}, {58, 59}};
     make_transmitter(&datagram);
-    check_runs("padding of a Transmitter", transmitter, COUNT(transmitter));
+    check_any("padding of a Transmitter", transmitter, COUNT(transmitter));
     make_words(&datagram, 0);
-    check_runs("padding and fill of a Signal", signal, COUNT(signal));
-    put(&datagram, SLOT_ID, slot_id(LAST_EPOCH, LAST_SLOT_OF_LAST_EPOCH) | 0x00FE0000);
+    check_any("padding and fill of a Signal", signal, COUNT(signal));
+    put(&datagram, SLOT_ID, slot_id(LAST_EPOCH, LAST_SLOT_OF_LAST_EPOCH) | SLOT_ID_PADDING);
     check("padding of a slot ID taken", &datagram, ALTUVRIN_TAKEN);
-    put(&datagram, SLOT_ID, slot_id(LAST_EPOCH, LAST_SLOT_OF_LAST_EPOCH + 1) | 0x00FE0000);
+    put(&datagram, SLOT_ID, slot_id(LAST_EPOCH, LAST_SLOT_OF_LAST_EPOCH + 1) | SLOT_ID_PADDING);
     check("padding of a slot ID refused", &datagram, ALTUVRIN_NETWORK_HEADER);
 }
 
 static void test_kept(void)
 {
-    static const struct run transmitter[] = {{1, 1},   {4, 7},   {12, 23}, {25, 28},
-                                             {32, 69}, {72, 89}, {96, 99}, {108, 111}};
-    static const struct run signal[] = {{1, 1}, {4, 7}, {12, 19}, {21, 21}, {24, 27}, {30, 31},
-                                        {44, 51}, {52, 179}};
+    static const struct range transmitter[] = {{1, 1},   {4, 7},   {12, 23}, {25, 28},
+                                               {32, 69}, {72, 89}, {96, 99}, {108, 111}};
+    static const struct range signal[] = {{1, 1},   {4, 7},   {12, 19}, {21, 21},
+                                          {24, 27}, {30, 31}, {44, 51}, {52, 179}};
     make_transmitter(&datagram);
-    check_runs("kept bytes of a Transmitter", transmitter, COUNT(transmitter));
+    check_any("kept bytes of a Transmitter", transmitter, COUNT(transmitter));
     make_words(&datagram, WORDS_MAX);
-    check_runs("kept bytes of a Signal", signal, COUNT(signal));
+    check_any("kept bytes of a Signal", signal, COUNT(signal));
 }
 
 void test_fields(void)

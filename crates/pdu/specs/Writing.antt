@@ -4,7 +4,7 @@ use mathlib.Core.Bool.{Bool, cond, _&&_}
 use mathlib.Core.List.{List, [], _∷_, _++_}
 use lib.ListN.{length, drop, replicate}
 use lib.Dec.{eqb, ltb}
-use Rattle.wire.specs.Bytes.{num, splice}
+use Rattle.wire.specs.Bytes.{num, allZero}
 use Rattle.wire.specs.Table.{fill, clear, allBlank}
 use Rattle.wire.specs.First.{Refusal, _given-when_, first}
 use Rattle.pdu.specs.Numbers
@@ -20,13 +20,17 @@ use Rattle.pdu.specs.declared.Written.the-variants.{Refused, Size}
 unfoldable pub transmitterBytes : Transmitter → List ℕ
 transmitterBytes t = fill transmitterTable (transmitterValues t)
 
+-- the bytes of a Signal up to its body of n bytes, by its table
+unfoldable pub signalHead : Signal → ℕ → List ℕ
+signalHead s n = fill signalTable (signalValues s n)
+
 -- how many zero bytes fill a Signal with a body of n bytes
 abbrev pub fillOf : ℕ → ℕ
 fillOf n = signalSize n - (Numbers.bodyStart + n)
 
 -- the bytes of a Signal: its table, the body, and the fill
 unfoldable pub signalBytes : Signal → List ℕ → List ℕ
-signalBytes s body = fill signalTable (signalValues s (length body)) ++ (body ++ replicate (fillOf (length body)) 0)
+signalBytes s body = signalHead s (length body) ++ (body ++ replicate (fillOf (length body)) 0)
 
 -- Writing a Transmitter: 2, 9, 16
 unfoldable pub transmitterWriting : Transmitter → ℕ → List Refusal
@@ -72,11 +76,6 @@ paddingZero d =
     cond (eqb (num 1 2 d) Numbers.transmitterType)
     (clear 0 transmitterTable d)
     (clear 0 signalTable d ++ (bodyOf d ++ replicate (length d - (Numbers.bodyStart + bodySize d)) 0))
-
--- whether every byte is zero
-abbrev pub allZero : List ℕ → Bool
-allZero [] = mathlib.Core.Bool.true
-allZero (x ∷ xs) = eqb x 0 && allZero xs
 
 -- whether a datagram is taken, and its padding, the fill included, is zero
 unfoldable pub inWrittenForm : List ℕ → Bool

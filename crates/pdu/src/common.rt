@@ -1,8 +1,11 @@
 // Bytes 0 to 19, which both PDUs share, and the rules that stand there.
 ghost use mathlib.Core.Path.{_≡_};
 ghost use Prim.Native.Nat.{_≤_};
-ghost use lib.ListN.{length};
-ghost use Rattle.pdu.specs.Records.{headerOf};
+ghost use lib.ListN.{length, take, drop};
+ghost use Rattle.wire.specs.Bytes.{splice};
+ghost use Rattle.wire.specs.Table.{fill};
+ghost use Rattle.pdu.specs.Tables.{common};
+ghost use Rattle.pdu.specs.Records.{headerOf, headerValues};
 ghost use Rattle.pdu.specs.Reading.{wrongVersion, wrongType, wrongLength};
 use crate::Header;
 
@@ -53,4 +56,30 @@ pub(crate) fn read_header(d: &[u8]) -> Header
         entity: wire::u16_at(d, 16),
         radio: wire::u16_at(d, 18),
     }
+}
+
+// Writes bytes 0 to 11.
+fn put_start(out: &mut [u8], h: Header, pdu_type: u8, size: u16)
+    requires { ⌜ 20 ≤ length (now out) ⌝ }
+    ensures { λ _. ⌜ now (out .exit) ≡ splice 0 (take 12 (fill (common «pdu_type») (headerValues h size))) (now (out .entry)) ⌝ }
+{
+    wire::put_u8(out, 0, h.version);
+    wire::put_u8(out, 1, h.exercise);
+    wire::put_u8(out, 2, pdu_type);
+    wire::put_u8(out, 3, RADIO_FAMILY);
+    wire::put_u32(out, 4, h.timestamp);
+    wire::put_u16(out, 8, size);
+    wire::put_u16(out, 10, 0);
+}
+
+// Writes bytes 0 to 19, with the PDU type and the size given.
+pub(crate) fn put_header(out: &mut [u8], h: Header, pdu_type: u8, size: u16)
+    requires { ⌜ 20 ≤ length (now out) ⌝ }
+    ensures { λ _. ⌜ now (out .exit) ≡ splice 0 (fill (common «pdu_type») (headerValues h size)) (now (out .entry)) ⌝ }
+{
+    put_start(out, h, pdu_type, size);
+    wire::put_u16(out, 12, h.site);
+    wire::put_u16(out, 14, h.application);
+    wire::put_u16(out, 16, h.entity);
+    wire::put_u16(out, 18, h.radio);
 }

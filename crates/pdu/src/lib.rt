@@ -7,6 +7,7 @@ ghost use Rattle.pdu.specs.Reading.{refusal, reading, numberOf, sizeOf};
 mod common;
 mod transmitter_reader;
 mod signal_reader;
+mod transmitter_writer;
 pub mod words;
 
 // Bytes 0 to 19, which both PDUs share; type, family, length and padding are not kept.

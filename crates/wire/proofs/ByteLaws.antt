@@ -3,14 +3,17 @@
 -- Assumes nothing.
 use Prim.Native.Nat.{ℕ, zero, suc, _+_, _*_, _/_, _%_, _^_, _≤_, _<_}
 use mathlib.Core.Path.{_≡_, refl, sym, ap, ap₂, _∙_}
+use mathlib.Core.Bool.{Bool, true, false, _&&_}
 use mathlib.Core.List.{List, [], _∷_, _++_, append-assoc}
 use lib.ListN.{length, getD, take, drop, set, length-append, length-drop}
-use lib.Seq.{getD-append-add, getD-at, getD-drop, take-suc, length-take-le}
+use lib.Seq.{getD-append-add, getD-at, getD-drop, take-suc, length-take-le, sets-eq}
 use lib.Arith.{digits-div, digits-mod, mod-mul}
-use native.Mathlib.Nat.{add-zero, add-suc, suc-add, add-assoc, mod-one, pow-suc}
+use native.Mathlib.Nat.{add-zero, add-suc, suc-add, add-assoc, mod-one, pow-suc, zero-add}
+use lib.Dec.{eqb}
+use borrow.Author.Tests.{eq-eqb, ne-eqb}
 use native.Mathlib.Numerals.{add-one}
 use native.Mathlib.Omega.{arith}
-use Rattle.wire.specs.Bytes.{num, big, splice, Bytes}
+use Rattle.wire.specs.Bytes.{num, big, splice, allZero, Bytes}
 
 pub length-big : (w v : ℕ) → length (big w v) ≡ w
 length-big zero v = refl
@@ -73,3 +76,22 @@ splice-more at i s l h =
     ap (λ (n : ℕ). set (splice at (take i s) l) (at + n) (getD s i 0)) (sym (length-take-le i s (omega arith)))
     ∙ splice-append at (take i s) (getD s i 0 ∷ []) l
     ∙ ap (λ (b : List ℕ). splice at b l) (sym (take-suc s i 0 h) ∙ ap (λ (n : ℕ). take n s) (sym (add-one i)))
+
+-- a splice from a buffer's start, said as bytes and what stood behind them
+pub splice-start : (b l : List ℕ) → length b ≤ length l → splice 0 b l ≡ b ++ drop (length b) l
+splice-start b l h = sets-eq b l 0 (omega arith) ∙ ap (λ (n : ℕ). b ++ drop n l) (zero-add (length b))
+
+-- a byte that is not zero, wherever it stands
+pub not-all-zero : (i : ℕ) (d : List ℕ) → (getD d i 0 ≡ 0 → ⊥) → allZero d ≡ false
+not-all-zero i [] h = elim (h refl) [ ]
+not-all-zero zero (x ∷ xs) h = ap (λ (t : Bool). t && allZero xs) (ne-eqb x 0 h)
+not-all-zero (suc i) (x ∷ xs) h = ap (λ (t : Bool). eqb x 0 && t) (not-all-zero i xs h) ∙ and-false (eqb x 0)
+  where
+    and-false : (t : Bool) → (t && false) ≡ false
+    and-false true = refl
+    and-false false = refl
+
+-- no byte but zero at any place
+pub each-zero : (d : List ℕ) → ((i : ℕ) → i < length d → getD d i 0 ≡ 0) → allZero d ≡ true
+each-zero [] h = refl
+each-zero (x ∷ xs) h = ap₂ _&&_ (eq-eqb x 0 (h 0 (omega arith))) (each-zero xs (λ i l. h (suc i) (omega arith)))

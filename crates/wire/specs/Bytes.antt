@@ -1,7 +1,9 @@
 -- Big-endian numbers in a list of bytes, and writing over a part of a buffer.
 use Prim.Native.Nat.{ℕ, zero, suc, _+_, _*_, _/_, _%_, _<_}
+use mathlib.Core.Bool.{Bool, true, _&&_}
 use mathlib.Core.List.{List, [], _∷_, _++_}
 use lib.ListN.{getD}
+use lib.Dec.{eqb}
 use lib.Seq.{sets}
 
 -- the number in the w bytes of d from byte o on, most significant first (01: numbers are big-endian)
@@ -17,6 +19,11 @@ big (suc w) v = big w (v / 256) ++ (v % 256 ∷ [])
 -- buffer with bytes written over it from place at on; what would pass its end is left out
 abbrev pub splice : ℕ → List ℕ → List ℕ → List ℕ
 splice at bytes buffer = sets buffer at bytes
+
+-- whether every byte is zero
+abbrev pub allZero : List ℕ → Bool
+allZero [] = true
+allZero (x ∷ xs) = eqb x 0 && allZero xs
 
 -- every element of d is a byte
 abbrev pub Bytes : List ℕ → Type 0

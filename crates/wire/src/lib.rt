@@ -4,7 +4,7 @@ ghost use mathlib.Core.Path.{_≡_};
 ghost use mathlib.Core.Bool.{not, _&&_, _||_};
 ghost use Prim.Native.Nat.{_+_, _≤_, _<_};
 ghost use lib.ListN.{length, replicate};
-ghost use Rattle.wire.specs.Bytes.{num, big, splice};
+ghost use Rattle.wire.specs.Bytes.{num, big, splice, allZero};
 
 // A byte as a wider number.
 fn wide16(b: u8) -> u16
@@ -39,6 +39,14 @@ pub fn u16_at(d: &[u8], at: usize) -> u16
     ensures { λ r. ⌜ r ≡ num 2 at (now (d .entry)) ⌝ }
 {
     wide16(d[at + 0]) * 256 + wide16(d[at + 1])
+}
+
+// The number in three bytes at `at`.
+pub fn u24_at(d: &[u8], at: usize) -> u32
+    requires { ⌜ at + 3 ≤ length (now d) ⌝ }
+    ensures { λ r. ⌜ r ≡ num 3 at (now (d .entry)) ⌝ }
+{
+    (wide32(d[at + 0]) * 256 + wide32(d[at + 1])) * 256 + wide32(d[at + 2])
 }
 
 // The number in four bytes at `at`.
@@ -123,6 +131,20 @@ pub fn zero(out: &mut [u8], at: usize, n: usize)
         out[at + i] = 0;
         i += 1;
     }
+}
+
+// Whether every byte is zero.
+pub fn is_zero(s: &[u8]) -> bool
+    ensures { λ r. ⌜ r ≡ allZero (now (s .entry)) ⌝ }
+{
+    let mut i = 0;
+    while i < s.len() {
+        if s[i] != 0 {
+            return false;
+        }
+        i += 1;
+    }
+    true
 }
 
 // Tests joined as values, so that what a caller knows of each stays with it.
