@@ -5,6 +5,7 @@ use mathlib.Core.Path.{_≡_, refl, ap}
 use mathlib.Core.Bool.{Bool, true, false, not, _||_, true≢false}
 use mathlib.Core.List.{List}
 use lib.ListN.{length, take, drop, length-take, length-drop}
+use lib.Seq.{take-all}
 use lib.Dec.{eqb, ltb}
 use borrow.Author.Tests.{eqb-true, eq-eqb, ne-eqb, ltb-false, not-false}
 use native.Mathlib.Omega.{arith}
@@ -69,3 +70,7 @@ unfolding signalRules
 signal-length d e =
     let size : ℕ = filled (32 + num 2 28 d / 8) in
     eqb-true (length d) size (not-false (eqb (length d) size) (unbroken 4 (signalRules d) refl e))
+
+-- a part that runs to the end
+pub part-rest : (start : ℕ) (d : List ℕ) → take (length d - start) (drop start d) ≡ drop start d
+part-rest start d = take-all (length d - start) (drop start d) (simp length-drop (omega arith))

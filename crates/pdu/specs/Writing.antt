@@ -46,7 +46,8 @@ signalWriting s n room =
     (2 given-when wrongVersion (s .header .version))
     ∷ (10 given-when ltb (Numbers.encodingKept - 1) (s .encoding))
     ∷ networkRules (s .network)
-    ++ (bodyRules (s .network .«message_type») n ++ ((16 given-when ltb room (signalSize n)) ∷ []))
+    ++ bodyRules (s .network .«message_type») n
+    ++ ((16 given-when ltb room (signalSize n)) ∷ [])
 
 -- what a writing answers, by its refusal number and the size it would write
 abbrev pub answered : ℕ → ℕ → Written

@@ -2,12 +2,18 @@
 // Every public call takes every input and is promised down to each bit of its answer and of the memory lent to it.
 
 ghost use mathlib.Core.Path.{_≡_};
+ghost use lib.ListN.{length};
+ghost use Rattle.wire.specs.First.{first};
+ghost use Rattle.pdu.specs.Numbers.{transmitterSize};
+ghost use Rattle.pdu.specs.Records.{signalSize};
 ghost use Rattle.pdu.specs.Reading.{refusal, reading, numberOf, sizeOf};
+ghost use Rattle.pdu.specs.Writing.{transmitterBytes, transmitterWriting, signalBytes, signalWriting, answered, left, inWrittenForm};
 
 mod common;
 mod transmitter_reader;
 mod signal_reader;
 mod transmitter_writer;
+mod signal_writer;
 pub mod words;
 
 // Bytes 0 to 19, which both PDUs share; type, family, length and padding are not kept.
@@ -159,12 +165,52 @@ pub fn number(r: Reading) -> u8
 }
 
 // The size of the PDU that reading took: 0 where the datagram is refused.
-pub fn size(r: Reading) -> usize
+pub fn size(r: Reading) -> u32
     ensures { λ n. ⌜ n ≡ sizeOf r ⌝ }
 {
     match r {
         Reading::Refused(_) => 0,
-        Reading::Transmitter(_) => transmitter_reader::SIZE,
-        Reading::Signal(_, body) => signal_reader::signal_size(body as usize),
+        Reading::Transmitter(_) => transmitter_reader::SIZE as u32,
+        Reading::Signal(_, body) => signal_reader::signal_size(body as usize) as u32,
+    }
+}
+
+// Writes a Transmitter from the start of `out`.
+pub fn write_transmitter(t: Transmitter, out: &mut [u8]) -> Written
+    ensures answer { λ r. ⌜ r ≡ answered (first (transmitterWriting t (length (now (out .entry))))) transmitterSize ⌝ }
+    ensures output { λ _. ⌜ now (out .exit) ≡ left (first (transmitterWriting t (length (now (out .entry))))) (transmitterBytes t) (now (out .entry)) ⌝ }
+{
+    let n = transmitter_writer::refusal(t, out.len());
+    if n != 0 {
+        return Written::Refused(n);
+    }
+    transmitter_writer::put(out, t);
+    Written::Size(transmitter_reader::SIZE)
+}
+
+// Writes a Signal, whose body is the whole slice, from the start of `out`.
+pub fn write_signal(s: Signal, body: &[u8], out: &mut [u8]) -> Written
+    ensures answer { λ r. ⌜ r ≡ answered (first (signalWriting s (length (now (body .entry))) (length (now (out .entry))))) (signalSize (length (now (body .entry)))) ⌝ }
+    ensures output { λ _. ⌜ now (out .exit) ≡ left (first (signalWriting s (length (now (body .entry))) (length (now (out .entry))))) (signalBytes s (now (body .entry))) (now (out .entry)) ⌝ }
+{
+    let n = signal_writer::refusal(s, body, out.len());
+    if n != 0 {
+        return Written::Refused(n);
+    }
+    signal_writer::put(out, s, body);
+    Written::Size(signal_reader::signal_size(body.len()))
+}
+
+// Whether a datagram is taken and already in written form: its padding, the fill included, is zero.
+pub fn is_written(datagram: &[u8]) -> bool
+    ensures { λ r. ⌜ r ≡ inWrittenForm (now (datagram .entry)) ⌝ }
+{
+    if reading_refusal(datagram) != 0 {
+        return false;
+    }
+    if wire::u8_at(datagram, 2) == common::TRANSMITTER_TYPE {
+        transmitter_reader::is_blank(datagram)
+    } else {
+        signal_reader::is_blank(datagram)
     }
 }

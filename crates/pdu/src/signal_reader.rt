@@ -1,11 +1,15 @@
 // Reading a Signal.
 ghost use mathlib.Core.Path.{_≡_};
+ghost use mathlib.Core.Bool.{_&&_};
 ghost use mathlib.Core.List.{_++_};
-ghost use Prim.Native.Nat.{_+_, _-_, _/_, _≤_};
-ghost use lib.ListN.{length};
+ghost use Prim.Native.Nat.{_+_, _-_, _*_, _/_, _≤_, _<_};
+ghost use lib.ListN.{length, drop};
+ghost use Rattle.wire.specs.Bytes.{num, allZero};
 ghost use Rattle.wire.specs.First.{first};
+ghost use Rattle.wire.specs.Table.{allBlank};
+ghost use Rattle.pdu.specs.Tables.{signalTable};
 ghost use Rattle.pdu.specs.Records.{headerOf, signalOf, filled, signalSize};
-ghost use Rattle.pdu.specs.Reading.{wrongBits, wrongSecurity, networkRules, bodyRules, signalRules};
+ghost use Rattle.pdu.specs.Reading.{bodySize, wrongBits, wrongSecurity, networkRules, bodyRules, signalRules};
 use crate::Network;
 use crate::Signal;
 use crate::common;
@@ -17,6 +21,8 @@ pub(crate) const ENCODING_KEPT: u16 = 16384;
 pub(crate) const TDL_TYPE: u16 = 100;
 pub(crate) const NETWORK_BYTES: u16 = 20;
 pub(crate) const BODY_START: usize = 52;
+const SLOTS: u32 = 131072;
+const EPOCH_UNIT: u32 = 16777216;
 const LAST_NPG: u16 = 511;
 const LAST_NET: u8 = 127;
 const LAST_SECURITY: u8 = 127;
@@ -69,10 +75,18 @@ fn read_network(d: &[u8]) -> Network
         tsec: wire::u8_at(d, 35),
         msec: wire::u8_at(d, 36),
         message_type: wire::u8_at(d, 37),
-        slot: slot_id % 131072,
-        epoch: (slot_id / 16777216 % 256) as u8,
+        slot: slot_id % SLOTS,
+        epoch: (slot_id / EPOCH_UNIT % 256) as u8,
         time: wire::u64_at(d, 44),
     }
+}
+
+// The slot ID of a slot and an epoch, its padding zero.
+pub(crate) fn slot_id(n: Network) -> u32
+    requires { ⌜ n .slot < 131072 ⌝ }
+    ensures { λ r. ⌜ r ≡ n .epoch * 16777216 + n .slot ⌝ }
+{
+    n.epoch as u32 * EPOCH_UNIT + n.slot
 }
 
 // The number of the first broken rule of the network header, or 0.
@@ -175,4 +189,22 @@ pub(crate) fn fields(d: &[u8]) -> Signal
         samples: wire::u16_at(d, 30),
         network: read_network(d),
     }
+}
+
+// Whether every padding bit before the body is zero.
+fn is_head_blank(d: &[u8]) -> bool
+    requires { ⌜ 52 ≤ length (now d) ⌝ }
+    ensures { λ r. ⌜ r ≡ allBlank 0 signalTable (now (d .entry)) ⌝ }
+{
+    let late = wire::both(wire::u16_at(d, 38) == 0, wire::u32_at(d, 40) / SLOTS % 128 == 0);
+    wire::both(wire::u16_at(d, 10) == 0, late)
+}
+
+// Whether every padding bit of a taken Signal, and its fill, is zero.
+pub(crate) fn is_blank(d: &[u8]) -> bool
+    requires { ⌜ (52 + bodySize (now d) ≤ length (now d)) × (160 ≤ num 2 28 (now d)) ⌝ }
+    ensures { λ r. ⌜ r ≡ (allBlank 0 signalTable (now (d .entry)) && allZero (drop (52 + bodySize (now (d .entry))) (now (d .entry)))) ⌝ }
+{
+    let end = BODY_START + (wire::u16_at(d, 28) / 8 - NETWORK_BYTES) as usize;
+    wire::both(is_head_blank(d), wire::is_zero(&d[end..]))
 }

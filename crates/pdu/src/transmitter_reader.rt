@@ -3,6 +3,8 @@ ghost use mathlib.Core.Path.{_≡_};
 ghost use Prim.Native.Nat.{_≤_};
 ghost use lib.ListN.{length};
 ghost use Rattle.wire.specs.First.{first};
+ghost use Rattle.wire.specs.Table.{allBlank};
+ghost use Rattle.pdu.specs.Tables.{transmitterTable};
 ghost use Rattle.pdu.specs.Records.{headerOf, transmitterOf};
 ghost use Rattle.pdu.specs.Reading.{wrongFixed, wrongSync, transmitterRules};
 use crate::Antenna;
@@ -147,4 +149,13 @@ pub(crate) fn fields(d: &[u8]) -> Transmitter
         emission: read_emission(d),
         sync: read_sync(d),
     }
+}
+
+// Whether every padding byte is zero.
+pub(crate) fn is_blank(d: &[u8]) -> bool
+    requires { ⌜ 112 ≤ length (now d) ⌝ }
+    ensures { λ r. ⌜ r ≡ allBlank 0 transmitterTable (now (d .entry)) ⌝ }
+{
+    let late = wire::both(wire::u16_at(d, 30) == 0, wire::u24_at(d, 101) == 0);
+    wire::both(wire::u16_at(d, 10) == 0, late)
 }

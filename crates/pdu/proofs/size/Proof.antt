@@ -7,35 +7,43 @@ use Rattle.pdu.proofs.size.Reads as reads
 use Rattle.pdu.proofs.size.Lts as lts
 use Rattle.pdu.proofs.signal_reader.signal_size.Reads as signal-size-reads
 
--- src/lib.rt:165:32
+-- src/lib.rt:172:32
 enum-told : tie.Need-enum-told
 enum-told c = search needs
 
--- src/lib.rt:166:36
+-- src/lib.rt:173:36
 enum-told-2 : tie.Need-enum-told-2
 enum-told-2 c = search needs
 
--- src/lib.rt:167:28
+-- src/lib.rt:173:36
+cast-result : tie.Need-cast-result
+cast-result c = search needs
+
+-- src/lib.rt:174:28
 enum-known-r : tie.Need-enum-known-r
 enum-known-r c = search needs
 
--- src/lib.rt:167:64
+-- src/lib.rt:174:64
 cast-signal-size : tie.Need-cast-signal-size
 cast-signal-size c = search needs
 
--- src/lib.rt:167:37
+-- src/lib.rt:174:37
 signal-size-requires : tie.Need-signal-size-requires
 signal-size-requires c κs = search needs
 
--- src/lib.rt:161:1
+-- src/lib.rt:174:37
+cast-result-2 : tie.Need-cast-result-2
+cast-result-2 c = search needs
+
+-- src/lib.rt:168:1
 returns : tie.Need-returns
 returns c = search needs
 
--- src/lib.rt:161:1
+-- src/lib.rt:168:1
 returns-2 : tie.Need-returns-2
 returns-2 c = search needs
 
--- src/lib.rt:161:1
+-- src/lib.rt:168:1
 returns-3 : tie.Need-returns-3
 returns-3 c = c .signal-size .ensures ∙ sym (ap sizeOf (c .before .before .r .given .1))
 
@@ -45,9 +53,11 @@ size-spec =
     (tie.spec
     enum-told
     enum-told-2
+    cast-result
     enum-known-r
     cast-signal-size
     signal-size-requires
+    cast-result-2
     returns
     returns-2
     returns-3)

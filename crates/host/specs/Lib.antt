@@ -1,0 +1,2 @@
+-- How an answer travels to C: one 64-bit number.
+pub mod Answer

@@ -1,0 +1,13 @@
+// The calls of the C host, on numbers and byte slices. Every export of the archive stands in this crate.
+ghost use mathlib.Core.Path.{_≡_};
+ghost use Rattle.pdu.specs.Reading.{reading, numberOf, sizeOf};
+ghost use Rattle.host.specs.Answer.{packed};
+
+// The answer number and size for a datagram; a null pointer with length 0 is an empty slice.
+#[no_mangle]
+pub extern "C" fn altuvrin_datagram(bytes: &[u8]) -> u64
+    ensures { λ r. ⌜ r ≡ packed (numberOf (reading (now (bytes .entry)))) (sizeOf (reading (now (bytes .entry)))) ⌝ }
+{
+    let answer = pdu::read(bytes);
+    pdu::number(answer) as u64 * 4294967296 + pdu::size(answer) as u64
+}
