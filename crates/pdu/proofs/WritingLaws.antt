@@ -61,11 +61,12 @@ signal-fits s n room e =
     let rules = signalWriting s n room in
     let slot : s .network .slot ≤ 98303 = ltb-false 98303 (s .network .slot) (unbroken 7 rules refl e) in
     let encoding : s .encoding ≤ 16383 = ltb-false 16383 (s .encoding) (unbroken 1 rules refl e) in
-    record
-    { encoding = omega arith
-    ; slot = omega arith
-    ; body = body-within (eqb (s .network .«message_type») 0) n (unbroken 10 rules refl e) (unbroken 11 rules refl e)
-    ; space = ltb-false room (signalSize n) (unbroken 12 rules refl e) }
+    record {
+      encoding = omega arith;
+      slot = omega arith;
+      body = body-within (eqb (s .network .«message_type») 0) n (unbroken 10 rules refl e) (unbroken 11 rules refl e);
+      space = ltb-false room (signalSize n) (unbroken 12 rules refl e);
+    }
 
 -- a Transmitter that the writer takes has room
 pub transmitter-fits : (t : Transmitter) (room : ℕ) → first (transmitterWriting t room) ≡ 0 → 112 ≤ room

@@ -10,10 +10,15 @@ ghost use Rattle.pdu.specs.Reading.{wrongVersion, wrongType, wrongLength
 use crate::Header;
 
 pub(crate) const SHORTEST: usize = 12;
+
 const OLDER_VERSION: u8 = 5;
+
 const NEWER_VERSION: u8 = 6;
+
 pub(crate) const TRANSMITTER_TYPE: u8 = 25;
+
 pub(crate) const SIGNAL_TYPE: u8 = 26;
+
 pub(crate) const RADIO_FAMILY: u8 = 4;
 
 // Whether refusal 2 applies to a version.

@@ -10,10 +10,10 @@ ghost use Rattle.pdu.specs.Reading.{refusal, reading, numberOf, sizeOf};
 ghost use Rattle.pdu.specs.Writing.{transmitterBytes, transmitterWriting, signalBytes, signalWriting, answered, left, inWrittenForm};
 
 mod common;
-mod transmitter_reader;
 mod signal_reader;
-mod transmitter_writer;
 mod signal_writer;
+mod transmitter_reader;
+mod transmitter_writer;
 pub mod words;
 
 // Bytes 0 to 19, which both PDUs share; type, family, length and padding are not kept.

@@ -16,22 +16,39 @@ use crate::common;
 use crate::words;
 
 const LEAST: u16 = 32;
+
 pub(crate) const ENCODING_CLASS: u16 = 1;
+
 pub(crate) const ENCODING_KEPT: u16 = 16384;
+
 pub(crate) const TDL_TYPE: u16 = 100;
+
 pub(crate) const NETWORK_BYTES: u16 = 20;
+
 pub(crate) const BODY_START: usize = 52;
+
 const SLOTS: u32 = 131072;
+
 const EPOCH_UNIT: u32 = 16777216;
+
 const LAST_NPG: u16 = 511;
+
 const LAST_NET: u8 = 127;
+
 const LAST_SECURITY: u8 = 127;
+
 const NO_SECURITY: u8 = 255;
+
 const LAST_MESSAGE_TYPE: u8 = 7;
+
 const LAST_SLOT: u32 = 98303;
+
 const LAST_EPOCH: u8 = 112;
+
 const LAST_SLOT_OF_LAST_EPOCH: u32 = 45151;
+
 const MOST_WORDS: usize = 12;
+
 const MOST_BYTES: usize = 256;
 
 // A size filled to a multiple of 4.
@@ -196,7 +213,10 @@ fn is_head_blank(d: &[u8]) -> bool
     requires { ⌜ 52 ≤ length (now d) ⌝ }
     ensures { λ r. ⌜ r ≡ allBlank 0 signalTable (now (d .entry)) ⌝ }
 {
-    let late = wire::both(wire::u16_at(d, 38) == 0, wire::u32_at(d, 40) / SLOTS % 128 == 0);
+    let late = wire::both(
+        wire::u16_at(d, 38) == 0,
+        wire::u32_at(d, 40) / SLOTS % 128 == 0,
+    );
     wire::both(wire::u16_at(d, 10) == 0, late)
 }
 

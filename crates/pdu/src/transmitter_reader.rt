@@ -15,20 +15,35 @@ use crate::Transmitter;
 use crate::common;
 
 const LEAST: u16 = 104;
+
 pub(crate) const SIZE: usize = 112;
+
 pub(crate) const CATEGORY: u8 = 21;
+
 pub(crate) const INPUT_SOURCE: u8 = 8;
+
 pub(crate) const PATTERN_LENGTH: u16 = 0;
+
 pub(crate) const MAJOR: u16 = 7;
+
 pub(crate) const DETAIL: u16 = 0;
+
 pub(crate) const SYSTEM: u16 = 8;
+
 pub(crate) const MODULATION_LENGTH: u8 = 8;
+
 const LAST_LEVEL: u8 = 4;
+
 const FIRST_ID_LEVEL: u8 = 3;
+
 const FIRST_PRIMARY_MODE: u8 = 1;
+
 const LAST_PRIMARY_MODE: u8 = 2;
+
 const LAST_SECONDARY_MODE: u8 = 3;
+
 const COARSE: u8 = 2;
+
 const FINE: u8 = 3;
 
 // Whether refusal 5 applies.
@@ -36,7 +51,10 @@ fn wrong_fixed(d: &[u8]) -> bool
     requires { ⌜ 104 ≤ length (now d) ⌝ }
     ensures { λ r. ⌜ r ≡ wrongFixed (now (d .entry)) ⌝ }
 {
-    let entity = wire::both(wire::u8_at(d, 24) == CATEGORY, wire::u8_at(d, 29) == INPUT_SOURCE);
+    let entity = wire::both(
+        wire::u8_at(d, 24) == CATEGORY,
+        wire::u8_at(d, 29) == INPUT_SOURCE,
+    );
     let kind = wire::both(entity, wire::u16_at(d, 90) == MAJOR);
     let modulation = wire::both(kind, wire::u16_at(d, 92) == DETAIL);
     wire::no(wire::both(modulation, wire::u16_at(d, 94) == SYSTEM))
@@ -46,7 +64,10 @@ fn wrong_fixed(d: &[u8]) -> bool
 pub(crate) fn wrong_sync(s: Sync) -> bool
     ensures { λ r. ⌜ r ≡ wrongSync s ⌝ }
 {
-    let primary = wire::both(FIRST_PRIMARY_MODE <= s.primary, s.primary <= LAST_PRIMARY_MODE);
+    let primary = wire::both(
+        FIRST_PRIMARY_MODE <= s.primary,
+        s.primary <= LAST_PRIMARY_MODE,
+    );
     let modes = wire::both(
         wire::both(s.level <= LAST_LEVEL, primary),
         s.secondary <= LAST_SECONDARY_MODE,

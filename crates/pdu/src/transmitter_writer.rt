@@ -99,7 +99,12 @@ pub(crate) fn put(out: &mut [u8], t: Transmitter)
     requires { ⌜ 112 ≤ length (now out) ⌝ }
     ensures { λ _. ⌜ now (out .exit) ≡ splice 0 (transmitterBytes t) (now (out .entry)) ⌝ }
 {
-    common::put_header(out, t.header, common::TRANSMITTER_TYPE, transmitter_reader::SIZE as u16);
+    common::put_header(
+        out,
+        t.header,
+        common::TRANSMITTER_TYPE,
+        transmitter_reader::SIZE as u16,
+    );
     put_entity(out, t);
     put_antenna(out, t);
     put_emission(out, t);

@@ -5,6 +5,7 @@ ghost use Rattle.pdu.specs.Words.{wordsIn, wordAt};
 use crate::Word;
 
 pub const BODY_HEADER: usize = 6;
+
 pub const WORD_BYTES: usize = 10;
 
 // How many whole words a type 0 body has behind its header.

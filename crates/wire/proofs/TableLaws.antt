@@ -299,11 +299,11 @@ blank-clear (s ∷ t) o d e b h z =
     let v : ℕ = num w o d in
     let here : List ℕ = big w (tidy s v) in
     let same : here ++ clear (o + w) t d ≡ big w v ++ take (width t) (drop (o + w) d) =
-        z ∙ first-apart s t o d ∙ ap (λ (l : List ℕ). l ++ take (width t) (drop (o + w) d)) (sym (big-num w o d b (omega arith))) in
+    z ∙ first-apart s t o d ∙ ap (λ (l : List ℕ). l ++ take (width t) (drop (o + w) d)) (sym (big-num w o d b (omega arith))) in
     let front : here ≡ big w v =
-        sym (take-at here _ w (length-big w (tidy s v))) ∙ ap (take w) same ∙ take-at (big w v) _ w (length-big w v) in
+    sym (take-at here _ w (length-big w (tidy s v))) ∙ ap (take w) same ∙ take-at (big w v) _ w (length-big w v) in
     let back : clear (o + w) t d ≡ take (width t) (drop (o + w) d) =
-        sym (drop-at here _ w (length-big w (tidy s v))) ∙ ap (drop w) same ∙ drop-at (big w v) _ w (length-big w v) in
+    sym (drop-at here _ w (length-big w (tidy s v))) ∙ ap (drop w) same ∙ drop-at (big w v) _ w (length-big w v) in
     let lt : v < 256 ^ w = num-lt w o d b in
     ap₂ _&&_
     (blank-tidy s t v e lt (big-same w (tidy s v) v (tidy-lt s t v e lt) lt front))

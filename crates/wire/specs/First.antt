@@ -5,7 +5,6 @@ use mathlib.Core.List.{List, [], _∷_}
 use lib.Dec.{eqb}
 
 infix 10 _given-when_
-
 -- a refusal: its number, and whether its rule is broken
 pub data Refusal : Type 0 where
   _given-when_ : ℕ → Bool → Refusal

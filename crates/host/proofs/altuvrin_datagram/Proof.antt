@@ -40,7 +40,7 @@ add-result c = search needs
 
 -- src/lib.rt:7:1
 returns : tie.Need-returns
-returns c = 
+returns c =
     ap₂ packed
     (c .before .number .ensures ∙ ap numberOf (c .before .before .read .ensures))
     (c .size .ensures ∙ ap sizeOf (c .before .before .read .ensures))

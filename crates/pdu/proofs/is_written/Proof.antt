@@ -23,9 +23,9 @@ reading-refusal-requires c κs = search needs
 -- src/lib.rt:209:9
 returns : tie.Need-returns
 unfolding inWrittenForm
-returns c = 
+returns c =
     rw
-    ( ne-eqb (refusal (now (c .before .before .before .args .datagram))) 0 (λ e. c .if1 .taken (c .before .reading-refusal .ensures ∙ e)) )
+    (ne-eqb (refusal (now (c .before .before .before .args .datagram))) 0 (λ e. c .if1 .taken (c .before .reading-refusal .ensures ∙ e)))
 
 -- src/lib.rt:211:8
 u8-at-requires : tie.Need-u8-at-requires
@@ -42,18 +42,20 @@ is-blank-requires-2 c κs = omega (arith, signal-bits (now (c .before .before .b
 -- src/lib.rt:205:1
 returns-2 : tie.Need-returns-2
 unfolding inWrittenForm
-returns-2 c = 
-    rw
-    ( eq-eqb (refusal (now (c .before .before .before .before .before .before .args .datagram))) 0 (sym (c .before .before .before .before .reading-refusal .ensures) ∙ c .before .before .before .if1 .left)
-    , (eq-eqb (num 1 2 (now (c .before .before .before .before .before .before .args .datagram))) 25 (sym (c .before .before .u8-at .ensures) ∙ c .before .if2 .taken)) ) (c .is-blank .ensures)
+returns-2 c =
+    rw (
+      eq-eqb (refusal (now (c .before .before .before .before .before .before .args .datagram))) 0 (sym (c .before .before .before .before .reading-refusal .ensures) ∙ c .before .before .before .if1 .left),
+      (eq-eqb (num 1 2 (now (c .before .before .before .before .before .before .args .datagram))) 25 (sym (c .before .before .u8-at .ensures) ∙ c .before .if2 .taken)),
+    ) (c .is-blank .ensures)
 
 -- src/lib.rt:205:1
 returns-3 : tie.Need-returns-3
 unfolding inWrittenForm
-returns-3 c = 
-    rw
-    ( eq-eqb (refusal (now (c .before .before .before .before .before .before .args .datagram))) 0 (sym (c .before .before .before .before .reading-refusal .ensures) ∙ c .before .before .before .if1 .left)
-    , (ne-eqb (num 1 2 (now (c .before .before .before .before .before .before .args .datagram))) 25 (λ e. c .before .if2 .left (c .before .before .u8-at .ensures ∙ e))) ) (c .is-blank2 .ensures)
+returns-3 c =
+    rw (
+      eq-eqb (refusal (now (c .before .before .before .before .before .before .args .datagram))) 0 (sym (c .before .before .before .before .reading-refusal .ensures) ∙ c .before .before .before .if1 .left),
+      (ne-eqb (num 1 2 (now (c .before .before .before .before .before .before .args .datagram))) 25 (λ e. c .before .if2 .left (c .before .before .u8-at .ensures ∙ e))),
+    ) (c .is-blank2 .ensures)
 
 pub is-written-spec : {M : Type 1} → statement M
 is-written-spec =

@@ -26,9 +26,9 @@ reading-refusal-requires c κs = search needs
 -- src/lib.rt:136:9
 returns : tie.Need-returns
 unfolding reading
-returns c = 
+returns c =
     rw
-    ( ne-eqb (refusal (now (c .before .before .before .args .datagram))) 0 (λ e. c .if1 .taken (c .before .reading-refusal .ensures ∙ e)) ) (ap Refused (c .before .reading-refusal .ensures))
+    (ne-eqb (refusal (now (c .before .before .before .args .datagram))) 0 (λ e. c .if1 .taken (c .before .reading-refusal .ensures ∙ e))) (ap Refused (c .before .reading-refusal .ensures))
 
 -- src/lib.rt:138:8
 u8-at-requires : tie.Need-u8-at-requires
@@ -53,18 +53,20 @@ sub-t10 c = omega (arith, signal-bits (now (c .before .before .before .before .b
 -- src/lib.rt:131:1
 returns-2 : tie.Need-returns-2
 unfolding reading content
-returns-2 c = 
-    rw
-    ( eq-eqb (refusal (now (c .before .before .before .before .before .before .args .datagram))) 0 (sym (c .before .before .before .before .reading-refusal .ensures) ∙ c .before .before .before .if1 .left)
-    , (eq-eqb (num 1 2 (now (c .before .before .before .before .before .before .args .datagram))) 25 (sym (c .before .before .u8-at .ensures) ∙ c .before .if2 .taken)) ) (ap Transmitter (c .fields .ensures))
+returns-2 c =
+    rw (
+      eq-eqb (refusal (now (c .before .before .before .before .before .before .args .datagram))) 0 (sym (c .before .before .before .before .reading-refusal .ensures) ∙ c .before .before .before .if1 .left),
+      (eq-eqb (num 1 2 (now (c .before .before .before .before .before .before .args .datagram))) 25 (sym (c .before .before .u8-at .ensures) ∙ c .before .if2 .taken)),
+    ) (ap Transmitter (c .fields .ensures))
 
 -- src/lib.rt:131:1
 returns-3 : tie.Need-returns-3
 unfolding reading content
-returns-3 c = 
-    rw
-    ( eq-eqb (refusal (now (c .before .before .before .before .before .before .before .args .datagram))) 0 (sym (c .before .before .before .before .before .reading-refusal .ensures) ∙ c .before .before .before .before .if1 .left)
-    , (ne-eqb (num 1 2 (now (c .before .before .before .before .before .before .before .args .datagram))) 25 (λ e. c .before .before .if2 .left (c .before .before .before .u8-at .ensures ∙ e))) ) (ap₂ (λ (s : Signal·record) (n : ℕ). Signal s (n / 8 - 20)) (c .fields2 .ensures) (c .before .u16-at .ensures))
+returns-3 c =
+    rw (
+      eq-eqb (refusal (now (c .before .before .before .before .before .before .before .args .datagram))) 0 (sym (c .before .before .before .before .before .reading-refusal .ensures) ∙ c .before .before .before .before .if1 .left),
+      (ne-eqb (num 1 2 (now (c .before .before .before .before .before .before .before .args .datagram))) 25 (λ e. c .before .before .if2 .left (c .before .before .before .u8-at .ensures ∙ e))),
+    ) (ap₂ (λ (s : Signal·record) (n : ℕ). Signal s (n / 8 - 20)) (c .fields2 .ensures) (c .before .u16-at .ensures))
 
 pub read-spec : {M : Type 1} → statement M
 read-spec =

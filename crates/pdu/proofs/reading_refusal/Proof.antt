@@ -18,9 +18,9 @@ use Rattle.wire.proofs.u8_at.Reads as u8-at-reads
 -- src/lib.rt:115:9
 returns : tie.Need-returns
 unfolding refusal readingRules
-returns c = 
+returns c =
     rw
-    ( lt-ltb (length (now (c .before .before .args .d))) 12 (c .if1 .taken) )
+    (lt-ltb (length (now (c .before .before .args .d))) 12 (c .if1 .taken))
 
 -- src/lib.rt:117:30
 u8-at-requires : tie.Need-u8-at-requires
@@ -33,10 +33,11 @@ wrong-version-requires c κs = search needs
 -- src/lib.rt:118:9
 returns-2 : tie.Need-returns-2
 unfolding refusal readingRules
-returns-2 c = 
-    rw
-    ( le-ltb (length (now (c .before .before .before .before .before .args .d))) 12 (c .before .before .before .if1 .left)
-    , sym (c .before .wrong-version .ensures ∙ ap wrongVersion (c .before .before .u8-at .ensures)) ∙ c .if2 .taken )
+returns-2 c =
+    rw (
+      le-ltb (length (now (c .before .before .before .before .before .args .d))) 12 (c .before .before .before .if1 .left),
+      sym (c .before .wrong-version .ensures ∙ ap wrongVersion (c .before .before .u8-at .ensures)) ∙ c .if2 .taken,
+    )
 
 -- src/lib.rt:120:8
 wrong-type-requires : tie.Need-wrong-type-requires
@@ -45,11 +46,12 @@ wrong-type-requires c κs = search needs
 -- src/lib.rt:121:9
 returns-3 : tie.Need-returns-3
 unfolding refusal readingRules
-returns-3 c = 
-    rw
-    ( le-ltb (length (now (c .before .before .before .before .before .before .before .args .d))) 12 (c .before .before .before .before .before .if1 .left)
-    , sym (c .before .before .before .wrong-version .ensures ∙ ap wrongVersion (c .before .before .before .before .u8-at .ensures)) ∙ c .before .before .if2 .left
-    , sym (c .before .wrong-type .ensures) ∙ c .if3 .taken )
+returns-3 c =
+    rw (
+      le-ltb (length (now (c .before .before .before .before .before .before .before .args .d))) 12 (c .before .before .before .before .before .if1 .left),
+      sym (c .before .before .before .wrong-version .ensures ∙ ap wrongVersion (c .before .before .before .before .u8-at .ensures)) ∙ c .before .before .if2 .left,
+      sym (c .before .wrong-type .ensures) ∙ c .if3 .taken,
+    )
 
 -- src/lib.rt:123:8
 u8-at-requires-2 : tie.Need-u8-at-requires-2
@@ -66,22 +68,24 @@ refusal-requires-2 c κs = search needs
 -- src/lib.rt:111:1
 returns-4 : tie.Need-returns-4
 unfolding refusal readingRules
-returns-4 c = 
-    rw
-    ( le-ltb (length (now (c .before .before .before .before .before .before .before .before .before .before .args .d))) 12 (c .before .before .before .before .before .before .before .before .if1 .left)
-    , sym (c .before .before .before .before .before .before .wrong-version .ensures ∙ ap wrongVersion (c .before .before .before .before .before .before .before .u8-at .ensures)) ∙ c .before .before .before .before .before .if2 .left
-    , sym (c .before .before .before .before .wrong-type .ensures) ∙ c .before .before .before .if3 .left
-    , eq-eqb (num 1 2 (now (c .before .before .before .before .before .before .before .before .before .before .args .d))) 25 (sym (c .before .before .u8-at2 .ensures) ∙ c .before .if4 .taken) ) (c .refusal .ensures)
+returns-4 c =
+    rw (
+      le-ltb (length (now (c .before .before .before .before .before .before .before .before .before .before .args .d))) 12 (c .before .before .before .before .before .before .before .before .if1 .left),
+      sym (c .before .before .before .before .before .before .wrong-version .ensures ∙ ap wrongVersion (c .before .before .before .before .before .before .before .u8-at .ensures)) ∙ c .before .before .before .before .before .if2 .left,
+      sym (c .before .before .before .before .wrong-type .ensures) ∙ c .before .before .before .if3 .left,
+      eq-eqb (num 1 2 (now (c .before .before .before .before .before .before .before .before .before .before .args .d))) 25 (sym (c .before .before .u8-at2 .ensures) ∙ c .before .if4 .taken),
+    ) (c .refusal .ensures)
 
 -- src/lib.rt:111:1
 returns-5 : tie.Need-returns-5
 unfolding refusal readingRules
-returns-5 c = 
-    rw
-    ( le-ltb (length (now (c .before .before .before .before .before .before .before .before .before .before .args .d))) 12 (c .before .before .before .before .before .before .before .before .if1 .left)
-    , sym (c .before .before .before .before .before .before .wrong-version .ensures ∙ ap wrongVersion (c .before .before .before .before .before .before .before .u8-at .ensures)) ∙ c .before .before .before .before .before .if2 .left
-    , sym (c .before .before .before .before .wrong-type .ensures) ∙ c .before .before .before .if3 .left
-    , ne-eqb (num 1 2 (now (c .before .before .before .before .before .before .before .before .before .before .args .d))) 25 (λ e. c .before .if4 .left (c .before .before .u8-at2 .ensures ∙ e)) ) (c .refusal2 .ensures)
+returns-5 c =
+    rw (
+      le-ltb (length (now (c .before .before .before .before .before .before .before .before .before .before .args .d))) 12 (c .before .before .before .before .before .before .before .before .if1 .left),
+      sym (c .before .before .before .before .before .before .wrong-version .ensures ∙ ap wrongVersion (c .before .before .before .before .before .before .before .u8-at .ensures)) ∙ c .before .before .before .before .before .if2 .left,
+      sym (c .before .before .before .before .wrong-type .ensures) ∙ c .before .before .before .if3 .left,
+      ne-eqb (num 1 2 (now (c .before .before .before .before .before .before .before .before .before .before .args .d))) 25 (λ e. c .before .if4 .left (c .before .before .u8-at2 .ensures ∙ e)),
+    ) (c .refusal2 .ensures)
 
 pub reading-refusal-spec : {M : Type 1} → statement M
 reading-refusal-spec =

@@ -23,13 +23,13 @@ refusal-requires c κs = search needs
 
 -- src/lib.rt:198:9
 returns : tie.Need-returns
-returns c = 
+returns c =
     let no = ne-eqb (first (signalWriting (c .before .before .before .before .args .s) (length (now (c .before .before .before .before .args .body))) (length (now (c .before .before .before .before .args .out))))) 0 (λ e. c .if1 .taken (c .before .refusal .ensures ∙ e)) in
     (rw no (ap Refused (c .before .refusal .ensures)), rw no)
 
 -- src/lib.rt:200:5
 put-requires : tie.Need-put-requires
-put-requires c κs = 
+put-requires c κs =
     let fits = (signal-fits (c .before .before .before .before .before .args .s) (length (now (c .before .before .before .before .before .args .body))) (length (now (c .before .before .before .before .before .args .out))) (sym (c .before .before .refusal .ensures) ∙ c .before .if1 .left)) in
     (fits .space, fits .encoding, fits .slot, fits .body)
 
@@ -43,10 +43,11 @@ same-length c = search needs
 
 -- src/lib.rt:192:1
 returns-2 : tie.Need-returns-2
-returns-2 c = 
-    let yes = eq-eqb (first (signalWriting (c .before .before .before .before .before .before .before .before .before .args .s) (length (now (c .before .before .before .before .before .before .before .before .before .args .body))) (length (now (c .before .before .before .before .before .before .before .before .before .args .out))))) 0 (sym (c .before .before .before .before .before .before .refusal .ensures) ∙ c .before .before .before .before .before .if1 .left) in
-    ( rw yes (ap Size (c .signal-size .ensures))
-    , rw yes (c .before .before .before .put .ensures ∙ splice-start (signalBytes (c .before .before .before .before .before .before .before .before .before .args .s) (now (c .before .before .before .before .before .before .before .before .before .args .body))) (now (c .before .before .before .before .before .before .before .before .before .args .out)) (rw (length-signal (c .before .before .before .before .before .before .before .before .before .args .s) (now (c .before .before .before .before .before .before .before .before .before .args .body))) ((signal-fits (c .before .before .before .before .before .before .before .before .before .args .s) (length (now (c .before .before .before .before .before .before .before .before .before .args .body))) (length (now (c .before .before .before .before .before .before .before .before .before .args .out))) (sym (c .before .before .before .before .before .before .refusal .ensures) ∙ c .before .before .before .before .before .if1 .left)) .space))) )
+returns-2 c =
+    let yes = eq-eqb (first (signalWriting (c .before .before .before .before .before .before .before .before .before .args .s) (length (now (c .before .before .before .before .before .before .before .before .before .args .body))) (length (now (c .before .before .before .before .before .before .before .before .before .args .out))))) 0 (sym (c .before .before .before .before .before .before .refusal .ensures) ∙ c .before .before .before .before .before .if1 .left) in (
+      rw yes (ap Size (c .signal-size .ensures)),
+      rw yes (c .before .before .before .put .ensures ∙ splice-start (signalBytes (c .before .before .before .before .before .before .before .before .before .args .s) (now (c .before .before .before .before .before .before .before .before .before .args .body))) (now (c .before .before .before .before .before .before .before .before .before .args .out)) (rw (length-signal (c .before .before .before .before .before .before .before .before .before .args .s) (now (c .before .before .before .before .before .before .before .before .before .args .body))) ((signal-fits (c .before .before .before .before .before .before .before .before .before .args .s) (length (now (c .before .before .before .before .before .before .before .before .before .args .body))) (length (now (c .before .before .before .before .before .before .before .before .before .args .out))) (sym (c .before .before .before .before .before .before .refusal .ensures) ∙ c .before .before .before .before .before .if1 .left)) .space))),
+    )
 
 pub write-signal-spec : {M : Type 1} → statement M
 write-signal-spec =

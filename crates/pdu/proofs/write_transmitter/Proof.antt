@@ -22,7 +22,7 @@ refusal-requires c κs = search needs
 
 -- src/lib.rt:185:9
 returns : tie.Need-returns
-returns c = 
+returns c =
     let no = ne-eqb (first (transmitterWriting (c .before .before .before .args .t) (length (now (c .before .before .before .args .out))))) 0 (λ e. c .if1 .taken (c .before .refusal .ensures ∙ e)) in
     (rw no (ap Refused (c .before .refusal .ensures)), rw no)
 
@@ -37,10 +37,11 @@ same-length c = search needs
 -- src/lib.rt:179:1
 returns-2 : tie.Need-returns-2
 unfolding transmitterBytes
-returns-2 c = 
-    let yes = eq-eqb (first (transmitterWriting (c .before .before .before .before .before .before .before .args .t) (length (now (c .before .before .before .before .before .before .before .args .out))))) 0 (sym (c .before .before .before .before .before .refusal .ensures) ∙ c .before .before .before .before .if1 .left) in
-    ( rw yes
-    , rw yes (c .before .before .put .ensures ∙ splice-start (transmitterBytes (c .before .before .before .before .before .before .before .args .t)) (now (c .before .before .before .before .before .before .before .args .out)) (transmitter-fits (c .before .before .before .before .before .before .before .args .t) (length (now (c .before .before .before .before .before .before .before .args .out))) (sym (c .before .before .before .before .before .refusal .ensures) ∙ c .before .before .before .before .if1 .left))) )
+returns-2 c =
+    let yes = eq-eqb (first (transmitterWriting (c .before .before .before .before .before .before .before .args .t) (length (now (c .before .before .before .before .before .before .before .args .out))))) 0 (sym (c .before .before .before .before .before .refusal .ensures) ∙ c .before .before .before .before .if1 .left) in (
+      rw yes,
+      rw yes (c .before .before .put .ensures ∙ splice-start (transmitterBytes (c .before .before .before .before .before .before .before .args .t)) (now (c .before .before .before .before .before .before .before .args .out)) (transmitter-fits (c .before .before .before .before .before .before .before .args .t) (length (now (c .before .before .before .before .before .before .before .args .out))) (sym (c .before .before .before .before .before .refusal .ensures) ∙ c .before .before .before .before .if1 .left))),
+    )
 
 pub write-transmitter-spec : {M : Type 1} → statement M
 write-transmitter-spec =

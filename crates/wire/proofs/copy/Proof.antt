@@ -46,11 +46,12 @@ loop-less c = omega arith
 loop-again : tie.Need-loop-again Inv-loop μ-loop
 loop-again c =
     let a = c .before .before .before .args in
-    let l = c .before .before .loop in
-    ( omega arith
-    , ap (λ (o : List ℕ). set o (a .at + l .i) (getD (now (a .src)) (l .i) 0)) (l .inv .1)
-    ∙ splice-more (a .at) (l .i) (now (a .src)) (now (a .out)) (omega arith)
-    , length-set (l .out) _ _ ∙ l .inv .2 )
+    let l = c .before .before .loop in (
+      omega arith,
+      ap (λ (o : List ℕ). set o (a .at + l .i) (getD (now (a .src)) (l .i) 0)) (l .inv .1)
+          ∙ splice-more (a .at) (l .i) (now (a .src)) (now (a .out)) (omega arith),
+      length-set (l .out) _ _ ∙ l .inv .2,
+    )
 
 -- src/lib.rt:105:1
 same-length : tie.Need-same-length Inv-loop μ-loop

@@ -43,11 +43,12 @@ loop-again : tie.Need-loop-again Inv-loop μ-loop
 loop-again c =
     let a = c .before .before .args in
     let l = c .before .loop in
-    let zeros : List ℕ = replicate (a .n) 0 in
-    ( omega arith
-    , ap₂ (λ (o : List ℕ) (z : ℕ). set o (a .at + l .i) z) (l .inv .1) (sym (getD-replicate (a .n) (l .i) 0 0 (omega arith)))
-    ∙ splice-more (a .at) (l .i) zeros (now (a .out)) (simp length-replicate (omega arith))
-    , length-set (l .out) _ _ ∙ l .inv .2 )
+    let zeros : List ℕ = replicate (a .n) 0 in (
+      omega arith,
+      ap₂ (λ (o : List ℕ) (z : ℕ). set o (a .at + l .i) z) (l .inv .1) (sym (getD-replicate (a .n) (l .i) 0 0 (omega arith)))
+          ∙ splice-more (a .at) (l .i) zeros (now (a .out)) (simp length-replicate (omega arith)),
+      length-set (l .out) _ _ ∙ l .inv .2,
+    )
 
 -- src/lib.rt:117:1
 same-length : tie.Need-same-length Inv-loop μ-loop

@@ -32,13 +32,14 @@ same-length c = search needs
 
 -- src/common.rt:76:1
 returns : tie.Need-returns
-returns c = 
-    rw
-    ( c .before .before .put-u164 .ensures
-    , c .before .before .before .before .before .before .put-u163 .ensures
-    , c .before .before .before .before .before .before .before .before .before .before .put-u162 .ensures
-    , c .before .before .before .before .before .before .before .before .before .before .before .before .before .before .put-u16 .ensures
-    , c .before .before .before .before .before .before .before .before .before .before .before .before .before .before .before .before .before .before .put-start .ensures )
+returns c =
+    rw (
+      c .before .before .put-u164 .ensures,
+      c .before .before .before .before .before .before .put-u163 .ensures,
+      c .before .before .before .before .before .before .before .before .before .before .put-u162 .ensures,
+      c .before .before .before .before .before .before .before .before .before .before .before .before .before .before .put-u16 .ensures,
+      c .before .before .before .before .before .before .before .before .before .before .before .before .before .before .before .before .before .before .put-start .ensures,
+    )
 
 pub put-header-spec : {M : Type 1} → statement M
 put-header-spec =

@@ -41,15 +41,16 @@ same-length c = search needs
 
 -- src/common.rt:62:1
 returns : tie.Need-returns
-returns c = 
-    rw
-    ( c .before .before .put-u162 .ensures
-    , c .before .before .before .before .before .before .put-u16 .ensures
-    , c .before .before .before .before .before .before .before .before .before .before .put-u32 .ensures
-    , c .before .before .before .before .before .before .before .before .before .before .before .before .before .before .put-u84 .ensures
-    , c .before .before .before .before .before .before .before .before .before .before .before .before .before .before .before .before .before .before .put-u83 .ensures
-    , c .before .before .before .before .before .before .before .before .before .before .before .before .before .before .before .before .before .before .before .before .before .before .put-u82 .ensures
-    , c .before .before .before .before .before .before .before .before .before .before .before .before .before .before .before .before .before .before .before .before .before .before .before .before .before .before .put-u8 .ensures )
+returns c =
+    rw (
+      c .before .before .put-u162 .ensures,
+      c .before .before .before .before .before .before .put-u16 .ensures,
+      c .before .before .before .before .before .before .before .before .before .before .put-u32 .ensures,
+      c .before .before .before .before .before .before .before .before .before .before .before .before .before .before .put-u84 .ensures,
+      c .before .before .before .before .before .before .before .before .before .before .before .before .before .before .before .before .before .before .put-u83 .ensures,
+      c .before .before .before .before .before .before .before .before .before .before .before .before .before .before .before .before .before .before .before .before .before .before .put-u82 .ensures,
+      c .before .before .before .before .before .before .before .before .before .before .before .before .before .before .before .before .before .before .before .before .before .before .before .before .before .before .put-u8 .ensures,
+    )
 
 pub put-start-spec : {M : Type 1} → statement M
 put-start-spec =

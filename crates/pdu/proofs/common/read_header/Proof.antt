@@ -40,14 +40,15 @@ u16-at-requires-4 c κs = search needs
 returns : tie.Need-returns
 unfolding headerOf
 returns c = λ i.
-    record
-    { version = c .before .before .before .before .before .before .u8-at .ensures i
-    ; exercise = c .before .before .before .before .before .u8-at2 .ensures i
-    ; timestamp = c .before .before .before .before .u32-at .ensures i
-    ; site = c .before .before .before .u16-at .ensures i
-    ; application = c .before .before .u16-at2 .ensures i
-    ; entity = c .before .u16-at3 .ensures i
-    ; radio = c .u16-at4 .ensures i }
+    record {
+      version = c .before .before .before .before .before .before .u8-at .ensures i;
+      exercise = c .before .before .before .before .before .u8-at2 .ensures i;
+      timestamp = c .before .before .before .before .u32-at .ensures i;
+      site = c .before .before .before .u16-at .ensures i;
+      application = c .before .before .u16-at2 .ensures i;
+      entity = c .before .u16-at3 .ensures i;
+      radio = c .u16-at4 .ensures i;
+    }
 
 pub read-header-spec : {M : Type 1} → statement M
 read-header-spec =

@@ -28,44 +28,49 @@ add-if2 c = search needs
 -- src/signal_reader.rt:108:13
 returns : tie.Need-returns
 unfolding bodyRules
-returns c = 
-    rw
-    ( eq-eqb (c .before .before .before .before .args .message-type) 0 (c .before .before .if1 .taken)
-    , differs (length (now (c .before .before .before .before .args .body))) (6 + 10 * wordsIn (length (now (c .before .before .before .before .args .body)))) (λ e. c .if2 .taken (e ∙ sym (ap (λ (n : ℕ). 6 + 10 * n) (c .before .count .ensures)))) )
+returns c =
+    rw (
+      eq-eqb (c .before .before .before .before .args .message-type) 0 (c .before .before .if1 .taken),
+      differs (length (now (c .before .before .before .before .args .body))) (6 + 10 * wordsIn (length (now (c .before .before .before .before .args .body)))) (λ e. c .if2 .taken (e ∙ sym (ap (λ (n : ℕ). 6 + 10 * n) (c .before .count .ensures)))),
+    )
 
 -- src/signal_reader.rt:111:13
 returns-2 : tie.Need-returns-2
 unfolding bodyRules
-returns-2 c = 
-    rw
-    ( eq-eqb (c .before .before .before .before .before .args .message-type) 0 (c .before .before .before .if1 .taken)
-    , agrees (length (now (c .before .before .before .before .before .args .body))) (6 + 10 * wordsIn (length (now (c .before .before .before .before .before .args .body)))) (c .before .if2 .left ∙ ap (λ (n : ℕ). 6 + 10 * n) (c .before .before .count .ensures))
-    , lt-ltb 12 (wordsIn (length (now (c .before .before .before .before .before .args .body)))) (rw (c .before .before .count .ensures) at (c .if3 .taken)) )
+returns-2 c =
+    rw (
+      eq-eqb (c .before .before .before .before .before .args .message-type) 0 (c .before .before .before .if1 .taken),
+      agrees (length (now (c .before .before .before .before .before .args .body))) (6 + 10 * wordsIn (length (now (c .before .before .before .before .before .args .body)))) (c .before .if2 .left ∙ ap (λ (n : ℕ). 6 + 10 * n) (c .before .before .count .ensures)),
+      lt-ltb 12 (wordsIn (length (now (c .before .before .before .before .before .args .body)))) (rw (c .before .before .count .ensures) at (c .if3 .taken)),
+    )
 
 -- src/signal_reader.rt:113:9
 returns-3 : tie.Need-returns-3
 unfolding bodyRules
-returns-3 c = 
-    rw
-    ( eq-eqb (c .before .before .before .before .before .args .message-type) 0 (c .before .before .before .if1 .taken)
-    , agrees (length (now (c .before .before .before .before .before .args .body))) (6 + 10 * wordsIn (length (now (c .before .before .before .before .before .args .body)))) (c .before .if2 .left ∙ ap (λ (n : ℕ). 6 + 10 * n) (c .before .before .count .ensures))
-    , le-ltb 12 (wordsIn (length (now (c .before .before .before .before .before .args .body)))) (rw (c .before .before .count .ensures) at (c .if3 .left)) )
+returns-3 c =
+    rw (
+      eq-eqb (c .before .before .before .before .before .args .message-type) 0 (c .before .before .before .if1 .taken),
+      agrees (length (now (c .before .before .before .before .before .args .body))) (6 + 10 * wordsIn (length (now (c .before .before .before .before .before .args .body)))) (c .before .if2 .left ∙ ap (λ (n : ℕ). 6 + 10 * n) (c .before .before .count .ensures)),
+      le-ltb 12 (wordsIn (length (now (c .before .before .before .before .before .args .body)))) (rw (c .before .before .count .ensures) at (c .if3 .left)),
+    )
 
 -- src/signal_reader.rt:116:9
 returns-4 : tie.Need-returns-4
 unfolding bodyRules
-returns-4 c = 
-    rw
-    ( ne-eqb (c .before .before .before .args .message-type) 0 (c .before .if1 .left)
-    , lt-ltb 256 (length (now (c .before .before .before .args .body))) (c .if4 .taken) )
+returns-4 c =
+    rw (
+      ne-eqb (c .before .before .before .args .message-type) 0 (c .before .if1 .left),
+      lt-ltb 256 (length (now (c .before .before .before .args .body))) (c .if4 .taken),
+    )
 
 -- src/signal_reader.rt:102:1
 returns-5 : tie.Need-returns-5
 unfolding bodyRules
-returns-5 c = 
-    rw
-    ( ne-eqb (c .before .before .before .args .message-type) 0 (c .before .if1 .left)
-    , le-ltb 256 (length (now (c .before .before .before .args .body))) (c .if4 .left) )
+returns-5 c =
+    rw (
+      ne-eqb (c .before .before .before .args .message-type) 0 (c .before .if1 .left),
+      le-ltb 256 (length (now (c .before .before .before .args .body))) (c .if4 .left),
+    )
 
 pub body-refusal-spec : {M : Type 1} → statement M
 body-refusal-spec =

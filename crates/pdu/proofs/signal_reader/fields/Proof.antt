@@ -38,12 +38,13 @@ read-network-requires c κs = search needs
 returns : tie.Need-returns
 unfolding headerOf signalOf
 returns c = λ i.
-    record
-    { header = c .before .before .before .before .read-header .ensures i
-    ; encoding = (ap (λ (n : ℕ). n % 16384) (c .before .before .before .u16-at .ensures) ∙ ap (λ (n : ℕ). n % 16384) (sym (div-one (num 2 20 (now (c .before .before .before .before .before .before .args .d)))))) i
-    ; rate = c .before .before .u32-at .ensures i
-    ; samples = c .before .u16-at2 .ensures i
-    ; network = c .read-network .ensures i }
+    record {
+      header = c .before .before .before .before .read-header .ensures i;
+      encoding = (ap (λ (n : ℕ). n % 16384) (c .before .before .before .u16-at .ensures) ∙ ap (λ (n : ℕ). n % 16384) (sym (div-one (num 2 20 (now (c .before .before .before .before .before .before .args .d)))))) i;
+      rate = c .before .before .u32-at .ensures i;
+      samples = c .before .u16-at2 .ensures i;
+      network = c .read-network .ensures i;
+    }
 
 pub fields-spec : {M : Type 1} → statement M
 fields-spec =

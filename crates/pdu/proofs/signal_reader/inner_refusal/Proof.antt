@@ -28,7 +28,7 @@ network-refusal-requires c κs = search needs
 
 -- src/signal_reader.rt:129:9
 returns : tie.Need-returns
-returns c = 
+returns c =
     (c .before .network-refusal .ensures ∙ ap (λ (n : Network). first (networkRules n)) (c .before .before .read-network .ensures))
     ∙ sym (first-here (networkRules (signalOf (now (c .before .before .before .before .args .d)) .network)) _ (λ e. c .if1 .taken ((c .before .network-refusal .ensures ∙ ap (λ (n : Network). first (networkRules n)) (c .before .before .read-network .ensures)) ∙ e)))
 
@@ -55,7 +55,7 @@ body-refusal-requires c κs = search needs
 -- src/signal_reader.rt:122:1
 returns-2 : tie.Need-returns-2
 unfolding networkRules
-returns-2 c = 
+returns-2 c =
     c .body-refusal .ensures
     ∙ ap₂ (λ (k n : ℕ). first (bodyRules k n))
     (ap (λ (n : Network). n .«message_type») (c .before .before .before .before .read-network .ensures))

@@ -57,13 +57,13 @@ both-requires c κs = search needs
 
 -- src/signal_reader.rt:204:1
 returns : tie.Need-returns
-returns c = 
+returns c =
     c .both .ensures
     ∙ ap₂ _&&_
     (c .before .before .before .is-head-blank .ensures)
-    ( c .before .is-zero .ensures
+    (c .before .is-zero .ensures
     ∙ ap allZero (part-rest (52 + (c .before .before .before .before .u16-at .result / 8 - 20)) (now (c .before .before .before .before .before .before .args .d)))
-    ∙ ap (λ (n : ℕ). allZero (drop (52 + (n / 8 - 20)) (now (c .before .before .before .before .before .before .args .d)))) (c .before .before .before .before .u16-at .ensures) )
+    ∙ ap (λ (n : ℕ). allZero (drop (52 + (n / 8 - 20)) (now (c .before .before .before .before .before .before .args .d)))) (c .before .before .before .before .u16-at .ensures))
 
 pub is-blank-spec : {M : Type 1} → statement M
 is-blank-spec =

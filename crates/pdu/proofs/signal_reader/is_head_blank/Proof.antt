@@ -34,15 +34,16 @@ both-requires-2 c κs = search needs
 
 -- src/signal_reader.rt:195:1
 returns : tie.Need-returns
-returns c = 
-    rw
-    ( c .both2 .ensures
-    , c .before .u16-at2 .ensures
-    , c .before .before .both .ensures
-    , c .before .before .before .u32-at .ensures
-    , c .before .before .before .before .u16-at .ensures
-    , and-true (eqb (num 4 40 (now (c .before .before .before .before .before .before .args .d)) / 131072 % 128) 0)
-    , and-true (eqb (num 4 40 (now (c .before .before .before .before .before .before .args .d)) / 131072 % 128) 0) )
+returns c =
+    rw (
+      c .both2 .ensures,
+      c .before .u16-at2 .ensures,
+      c .before .before .both .ensures,
+      c .before .before .before .u32-at .ensures,
+      c .before .before .before .before .u16-at .ensures,
+      and-true (eqb (num 4 40 (now (c .before .before .before .before .before .before .args .d)) / 131072 % 128) 0),
+      and-true (eqb (num 4 40 (now (c .before .before .before .before .before .before .args .d)) / 131072 % 128) 0),
+    )
 
 pub is-head-blank-spec : {M : Type 1} → statement M
 is-head-blank-spec =

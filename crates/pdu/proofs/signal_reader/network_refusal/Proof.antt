@@ -12,17 +12,18 @@ use Rattle.wire.proofs.both.Reads as both-reads
 -- src/signal_reader.rt:75:9
 returns : tie.Need-returns
 unfolding networkRules
-returns c = 
+returns c =
     rw
-    ( lt-ltb 511 (c .before .before .args .n .npg) (c .if1 .taken) )
+    (lt-ltb 511 (c .before .before .args .n .npg) (c .if1 .taken))
 
 -- src/signal_reader.rt:78:9
 returns-2 : tie.Need-returns-2
 unfolding networkRules
-returns-2 c = 
-    rw
-    ( le-ltb 511 (c .before .before .before .before .args .n .npg) (c .before .before .if1 .left)
-    , lt-ltb 127 (c .before .before .before .before .args .n .net) (c .if2 .taken) )
+returns-2 c =
+    rw (
+      le-ltb 511 (c .before .before .before .before .args .n .npg) (c .before .before .if1 .left),
+      lt-ltb 127 (c .before .before .before .before .args .n .net) (c .if2 .taken),
+    )
 
 -- src/signal_reader.rt:80:8
 wrong-security-requires : tie.Need-wrong-security-requires
@@ -31,11 +32,12 @@ wrong-security-requires c κs = search needs
 -- src/signal_reader.rt:81:9
 returns-3 : tie.Need-returns-3
 unfolding networkRules
-returns-3 c = 
-    rw
-    ( le-ltb 511 (c .before .before .before .before .before .before .args .n .npg) (c .before .before .before .before .if1 .left)
-    , le-ltb 127 (c .before .before .before .before .before .before .args .n .net) (c .before .before .if2 .left)
-    , sym (c .before .wrong-security .ensures) ∙ c .if3 .taken )
+returns-3 c =
+    rw (
+      le-ltb 511 (c .before .before .before .before .before .before .args .n .npg) (c .before .before .before .before .if1 .left),
+      le-ltb 127 (c .before .before .before .before .before .before .args .n .net) (c .before .before .if2 .left),
+      sym (c .before .wrong-security .ensures) ∙ c .if3 .taken,
+    )
 
 -- src/signal_reader.rt:83:8
 wrong-security-requires-2 : tie.Need-wrong-security-requires-2
@@ -44,48 +46,52 @@ wrong-security-requires-2 c κs = search needs
 -- src/signal_reader.rt:84:9
 returns-4 : tie.Need-returns-4
 unfolding networkRules
-returns-4 c = 
-    rw
-    ( le-ltb 511 (c .before .before .before .before .before .before .before .before .args .n .npg) (c .before .before .before .before .before .before .if1 .left)
-    , le-ltb 127 (c .before .before .before .before .before .before .before .before .args .n .net) (c .before .before .before .before .if2 .left)
-    , sym (c .before .before .before .wrong-security .ensures) ∙ c .before .before .if3 .left
-    , sym (c .before .wrong-security2 .ensures) ∙ c .if4 .taken )
+returns-4 c =
+    rw (
+      le-ltb 511 (c .before .before .before .before .before .before .before .before .args .n .npg) (c .before .before .before .before .before .before .if1 .left),
+      le-ltb 127 (c .before .before .before .before .before .before .before .before .args .n .net) (c .before .before .before .before .if2 .left),
+      sym (c .before .before .before .wrong-security .ensures) ∙ c .before .before .if3 .left,
+      sym (c .before .wrong-security2 .ensures) ∙ c .if4 .taken,
+    )
 
 -- src/signal_reader.rt:87:9
 returns-5 : tie.Need-returns-5
 unfolding networkRules
-returns-5 c = 
-    rw
-    ( le-ltb 511 (c .before .before .before .before .before .before .before .before .before .before .args .n .npg) (c .before .before .before .before .before .before .before .before .if1 .left)
-    , le-ltb 127 (c .before .before .before .before .before .before .before .before .before .before .args .n .net) (c .before .before .before .before .before .before .if2 .left)
-    , sym (c .before .before .before .before .before .wrong-security .ensures) ∙ c .before .before .before .before .if3 .left
-    , sym (c .before .before .before .wrong-security2 .ensures) ∙ c .before .before .if4 .left
-    , lt-ltb 7 (c .before .before .before .before .before .before .before .before .before .before .args .n .«message_type») (c .if5 .taken) )
+returns-5 c =
+    rw (
+      le-ltb 511 (c .before .before .before .before .before .before .before .before .before .before .args .n .npg) (c .before .before .before .before .before .before .before .before .if1 .left),
+      le-ltb 127 (c .before .before .before .before .before .before .before .before .before .before .args .n .net) (c .before .before .before .before .before .before .if2 .left),
+      sym (c .before .before .before .before .before .wrong-security .ensures) ∙ c .before .before .before .before .if3 .left,
+      sym (c .before .before .before .wrong-security2 .ensures) ∙ c .before .before .if4 .left,
+      lt-ltb 7 (c .before .before .before .before .before .before .before .before .before .before .args .n .«message_type») (c .if5 .taken),
+    )
 
 -- src/signal_reader.rt:90:9
 returns-6 : tie.Need-returns-6
 unfolding networkRules
-returns-6 c = 
-    rw
-    ( le-ltb 511 (c .before .before .before .before .before .before .before .before .before .before .before .before .args .n .npg) (c .before .before .before .before .before .before .before .before .before .before .if1 .left)
-    , le-ltb 127 (c .before .before .before .before .before .before .before .before .before .before .before .before .args .n .net) (c .before .before .before .before .before .before .before .before .if2 .left)
-    , sym (c .before .before .before .before .before .before .before .wrong-security .ensures) ∙ c .before .before .before .before .before .before .if3 .left
-    , sym (c .before .before .before .before .before .wrong-security2 .ensures) ∙ c .before .before .before .before .if4 .left
-    , le-ltb 7 (c .before .before .before .before .before .before .before .before .before .before .before .before .args .n .«message_type») (c .before .before .if5 .left)
-    , lt-ltb 98303 (c .before .before .before .before .before .before .before .before .before .before .before .before .args .n .slot) (c .if6 .taken) )
+returns-6 c =
+    rw (
+      le-ltb 511 (c .before .before .before .before .before .before .before .before .before .before .before .before .args .n .npg) (c .before .before .before .before .before .before .before .before .before .before .if1 .left),
+      le-ltb 127 (c .before .before .before .before .before .before .before .before .before .before .before .before .args .n .net) (c .before .before .before .before .before .before .before .before .if2 .left),
+      sym (c .before .before .before .before .before .before .before .wrong-security .ensures) ∙ c .before .before .before .before .before .before .if3 .left,
+      sym (c .before .before .before .before .before .wrong-security2 .ensures) ∙ c .before .before .before .before .if4 .left,
+      le-ltb 7 (c .before .before .before .before .before .before .before .before .before .before .before .before .args .n .«message_type») (c .before .before .if5 .left),
+      lt-ltb 98303 (c .before .before .before .before .before .before .before .before .before .before .before .before .args .n .slot) (c .if6 .taken),
+    )
 
 -- src/signal_reader.rt:93:9
 returns-7 : tie.Need-returns-7
 unfolding networkRules
-returns-7 c = 
-    rw
-    ( le-ltb 511 (c .before .before .before .before .before .before .before .before .before .before .before .before .before .before .args .n .npg) (c .before .before .before .before .before .before .before .before .before .before .before .before .if1 .left)
-    , le-ltb 127 (c .before .before .before .before .before .before .before .before .before .before .before .before .before .before .args .n .net) (c .before .before .before .before .before .before .before .before .before .before .if2 .left)
-    , sym (c .before .before .before .before .before .before .before .before .before .wrong-security .ensures) ∙ c .before .before .before .before .before .before .before .before .if3 .left
-    , sym (c .before .before .before .before .before .before .before .wrong-security2 .ensures) ∙ c .before .before .before .before .before .before .if4 .left
-    , le-ltb 7 (c .before .before .before .before .before .before .before .before .before .before .before .before .before .before .args .n .«message_type») (c .before .before .before .before .if5 .left)
-    , le-ltb 98303 (c .before .before .before .before .before .before .before .before .before .before .before .before .before .before .args .n .slot) (c .before .before .if6 .left)
-    , lt-ltb 112 (c .before .before .before .before .before .before .before .before .before .before .before .before .before .before .args .n .epoch) (c .if7 .taken) )
+returns-7 c =
+    rw (
+      le-ltb 511 (c .before .before .before .before .before .before .before .before .before .before .before .before .before .before .args .n .npg) (c .before .before .before .before .before .before .before .before .before .before .before .before .if1 .left),
+      le-ltb 127 (c .before .before .before .before .before .before .before .before .before .before .before .before .before .before .args .n .net) (c .before .before .before .before .before .before .before .before .before .before .if2 .left),
+      sym (c .before .before .before .before .before .before .before .before .before .wrong-security .ensures) ∙ c .before .before .before .before .before .before .before .before .if3 .left,
+      sym (c .before .before .before .before .before .before .before .wrong-security2 .ensures) ∙ c .before .before .before .before .before .before .if4 .left,
+      le-ltb 7 (c .before .before .before .before .before .before .before .before .before .before .before .before .before .before .args .n .«message_type») (c .before .before .before .before .if5 .left),
+      le-ltb 98303 (c .before .before .before .before .before .before .before .before .before .before .before .before .before .before .args .n .slot) (c .before .before .if6 .left),
+      lt-ltb 112 (c .before .before .before .before .before .before .before .before .before .before .before .before .before .before .args .n .epoch) (c .if7 .taken),
+    )
 
 -- src/signal_reader.rt:95:8
 both-requires : tie.Need-both-requires
@@ -94,30 +100,32 @@ both-requires c κs = search needs
 -- src/signal_reader.rt:96:9
 returns-8 : tie.Need-returns-8
 unfolding networkRules
-returns-8 c = 
-    rw
-    ( le-ltb 511 (c .before .before .before .before .before .before .before .before .before .before .before .before .before .before .before .before .before .before .args .n .npg) (c .before .before .before .before .before .before .before .before .before .before .before .before .before .before .before .before .if1 .left)
-    , le-ltb 127 (c .before .before .before .before .before .before .before .before .before .before .before .before .before .before .before .before .before .before .args .n .net) (c .before .before .before .before .before .before .before .before .before .before .before .before .before .before .if2 .left)
-    , sym (c .before .before .before .before .before .before .before .before .before .before .before .before .before .wrong-security .ensures) ∙ c .before .before .before .before .before .before .before .before .before .before .before .before .if3 .left
-    , sym (c .before .before .before .before .before .before .before .before .before .before .before .wrong-security2 .ensures) ∙ c .before .before .before .before .before .before .before .before .before .before .if4 .left
-    , le-ltb 7 (c .before .before .before .before .before .before .before .before .before .before .before .before .before .before .before .before .before .before .args .n .«message_type») (c .before .before .before .before .before .before .before .before .if5 .left)
-    , le-ltb 98303 (c .before .before .before .before .before .before .before .before .before .before .before .before .before .before .before .before .before .before .args .n .slot) (c .before .before .before .before .before .before .if6 .left)
-    , le-ltb 112 (c .before .before .before .before .before .before .before .before .before .before .before .before .before .before .before .before .before .before .args .n .epoch) (c .before .before .before .before .if7 .left)
-    , sym (c .before .both .ensures) ∙ c .if8 .taken )
+returns-8 c =
+    rw (
+      le-ltb 511 (c .before .before .before .before .before .before .before .before .before .before .before .before .before .before .before .before .before .before .args .n .npg) (c .before .before .before .before .before .before .before .before .before .before .before .before .before .before .before .before .if1 .left),
+      le-ltb 127 (c .before .before .before .before .before .before .before .before .before .before .before .before .before .before .before .before .before .before .args .n .net) (c .before .before .before .before .before .before .before .before .before .before .before .before .before .before .if2 .left),
+      sym (c .before .before .before .before .before .before .before .before .before .before .before .before .before .wrong-security .ensures) ∙ c .before .before .before .before .before .before .before .before .before .before .before .before .if3 .left,
+      sym (c .before .before .before .before .before .before .before .before .before .before .before .wrong-security2 .ensures) ∙ c .before .before .before .before .before .before .before .before .before .before .if4 .left,
+      le-ltb 7 (c .before .before .before .before .before .before .before .before .before .before .before .before .before .before .before .before .before .before .args .n .«message_type») (c .before .before .before .before .before .before .before .before .if5 .left),
+      le-ltb 98303 (c .before .before .before .before .before .before .before .before .before .before .before .before .before .before .before .before .before .before .args .n .slot) (c .before .before .before .before .before .before .if6 .left),
+      le-ltb 112 (c .before .before .before .before .before .before .before .before .before .before .before .before .before .before .before .before .before .before .args .n .epoch) (c .before .before .before .before .if7 .left),
+      sym (c .before .both .ensures) ∙ c .if8 .taken,
+    )
 
 -- src/signal_reader.rt:71:1
 returns-9 : tie.Need-returns-9
 unfolding networkRules
-returns-9 c = 
-    rw
-    ( le-ltb 511 (c .before .before .before .before .before .before .before .before .before .before .before .before .before .before .before .before .before .before .args .n .npg) (c .before .before .before .before .before .before .before .before .before .before .before .before .before .before .before .before .if1 .left)
-    , le-ltb 127 (c .before .before .before .before .before .before .before .before .before .before .before .before .before .before .before .before .before .before .args .n .net) (c .before .before .before .before .before .before .before .before .before .before .before .before .before .before .if2 .left)
-    , sym (c .before .before .before .before .before .before .before .before .before .before .before .before .before .wrong-security .ensures) ∙ c .before .before .before .before .before .before .before .before .before .before .before .before .if3 .left
-    , sym (c .before .before .before .before .before .before .before .before .before .before .before .wrong-security2 .ensures) ∙ c .before .before .before .before .before .before .before .before .before .before .if4 .left
-    , le-ltb 7 (c .before .before .before .before .before .before .before .before .before .before .before .before .before .before .before .before .before .before .args .n .«message_type») (c .before .before .before .before .before .before .before .before .if5 .left)
-    , le-ltb 98303 (c .before .before .before .before .before .before .before .before .before .before .before .before .before .before .before .before .before .before .args .n .slot) (c .before .before .before .before .before .before .if6 .left)
-    , le-ltb 112 (c .before .before .before .before .before .before .before .before .before .before .before .before .before .before .before .before .before .before .args .n .epoch) (c .before .before .before .before .if7 .left)
-    , sym (c .before .both .ensures) ∙ c .if8 .left )
+returns-9 c =
+    rw (
+      le-ltb 511 (c .before .before .before .before .before .before .before .before .before .before .before .before .before .before .before .before .before .before .args .n .npg) (c .before .before .before .before .before .before .before .before .before .before .before .before .before .before .before .before .if1 .left),
+      le-ltb 127 (c .before .before .before .before .before .before .before .before .before .before .before .before .before .before .before .before .before .before .args .n .net) (c .before .before .before .before .before .before .before .before .before .before .before .before .before .before .if2 .left),
+      sym (c .before .before .before .before .before .before .before .before .before .before .before .before .before .wrong-security .ensures) ∙ c .before .before .before .before .before .before .before .before .before .before .before .before .if3 .left,
+      sym (c .before .before .before .before .before .before .before .before .before .before .before .wrong-security2 .ensures) ∙ c .before .before .before .before .before .before .before .before .before .before .if4 .left,
+      le-ltb 7 (c .before .before .before .before .before .before .before .before .before .before .before .before .before .before .before .before .before .before .args .n .«message_type») (c .before .before .before .before .before .before .before .before .if5 .left),
+      le-ltb 98303 (c .before .before .before .before .before .before .before .before .before .before .before .before .before .before .before .before .before .before .args .n .slot) (c .before .before .before .before .before .before .if6 .left),
+      le-ltb 112 (c .before .before .before .before .before .before .before .before .before .before .before .before .before .before .before .before .before .before .args .n .epoch) (c .before .before .before .before .if7 .left),
+      sym (c .before .both .ensures) ∙ c .if8 .left,
+    )
 
 pub network-refusal-spec : {M : Type 1} → statement M
 network-refusal-spec =

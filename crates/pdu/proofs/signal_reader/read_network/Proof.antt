@@ -50,15 +50,16 @@ u64-at-requires c κs = search needs
 returns : tie.Need-returns
 unfolding signalOf
 returns c = λ i.
-    record
-    { npg = c .before .before .before .before .before .u16-at .ensures i
-    ; net = c .before .before .before .before .u8-at .ensures i
-    ; tsec = c .before .before .before .u8-at2 .ensures i
-    ; msec = c .before .before .u8-at3 .ensures i
-    ; «message_type» = c .before .u8-at4 .ensures i
-    ; slot = (ap (λ (n : ℕ). n % 131072) (c .before .before .before .before .before .before .u32-at .ensures) ∙ ap (λ (n : ℕ). n % 131072) (sym (div-one (num 4 40 (now (c .before .before .before .before .before .before .before .before .args .d)))))) i
-    ; epoch = ap (λ (n : ℕ). n / 16777216 % 256) (c .before .before .before .before .before .before .u32-at .ensures) i
-    ; time = c .u64-at .ensures i }
+    record {
+      npg = c .before .before .before .before .before .u16-at .ensures i;
+      net = c .before .before .before .before .u8-at .ensures i;
+      tsec = c .before .before .before .u8-at2 .ensures i;
+      msec = c .before .before .u8-at3 .ensures i;
+      «message_type» = c .before .u8-at4 .ensures i;
+      slot = (ap (λ (n : ℕ). n % 131072) (c .before .before .before .before .before .before .u32-at .ensures) ∙ ap (λ (n : ℕ). n % 131072) (sym (div-one (num 4 40 (now (c .before .before .before .before .before .before .before .before .args .d)))))) i;
+      epoch = ap (λ (n : ℕ). n / 16777216 % 256) (c .before .before .before .before .before .before .u32-at .ensures) i;
+      time = c .u64-at .ensures i;
+    }
 
 pub read-network-spec : {M : Type 1} → statement M
 read-network-spec =

@@ -27,9 +27,9 @@ wrong-length-requires c κs = search needs
 -- src/signal_reader.rt:140:9
 returns : tie.Need-returns
 unfolding signalRules
-returns c = 
+returns c =
     rw
-    ( sym (c .before .wrong-length .ensures) ∙ c .if1 .taken )
+    (sym (c .before .wrong-length .ensures) ∙ c .if1 .taken)
 
 -- src/signal_reader.rt:142:8
 u16-at-requires : tie.Need-u16-at-requires
@@ -38,10 +38,11 @@ u16-at-requires c κs = omega (arith, right-length 32 (now (c .before .before .b
 -- src/signal_reader.rt:143:9
 returns-2 : tie.Need-returns-2
 unfolding signalRules
-returns-2 c = 
-    rw
-    ( sym (c .before .before .before .wrong-length .ensures) ∙ c .before .before .if1 .left
-    , differs (num 2 20 (now (c .before .before .before .before .before .args .d)) / 16384) 1 (λ e. c .if2 .taken (ap (λ (n : ℕ). n / 16384) (c .before .u16-at .ensures) ∙ e)) )
+returns-2 c =
+    rw (
+      sym (c .before .before .before .wrong-length .ensures) ∙ c .before .before .if1 .left,
+      differs (num 2 20 (now (c .before .before .before .before .before .args .d)) / 16384) 1 (λ e. c .if2 .taken (ap (λ (n : ℕ). n / 16384) (c .before .u16-at .ensures) ∙ e)),
+    )
 
 -- src/signal_reader.rt:145:8
 u16-at-requires-2 : tie.Need-u16-at-requires-2
@@ -50,11 +51,12 @@ u16-at-requires-2 c κs = omega (arith, right-length 32 (now (c .before .before 
 -- src/signal_reader.rt:146:9
 returns-3 : tie.Need-returns-3
 unfolding signalRules
-returns-3 c = 
-    rw
-    ( sym (c .before .before .before .before .before .wrong-length .ensures) ∙ c .before .before .before .before .if1 .left
-    , agrees (num 2 20 (now (c .before .before .before .before .before .before .before .args .d)) / 16384) 1 (sym (ap (λ (n : ℕ). n / 16384) (c .before .before .before .u16-at .ensures)) ∙ c .before .before .if2 .left)
-    , differs (num 2 22 (now (c .before .before .before .before .before .before .before .args .d))) 100 (λ e. c .if3 .taken (c .before .u16-at2 .ensures ∙ e)) )
+returns-3 c =
+    rw (
+      sym (c .before .before .before .before .before .wrong-length .ensures) ∙ c .before .before .before .before .if1 .left,
+      agrees (num 2 20 (now (c .before .before .before .before .before .before .before .args .d)) / 16384) 1 (sym (ap (λ (n : ℕ). n / 16384) (c .before .before .before .u16-at .ensures)) ∙ c .before .before .if2 .left),
+      differs (num 2 22 (now (c .before .before .before .before .before .before .before .args .d))) 100 (λ e. c .if3 .taken (c .before .u16-at2 .ensures ∙ e)),
+    )
 
 -- src/signal_reader.rt:148:9
 u16-at-requires-3 : tie.Need-u16-at-requires-3
@@ -67,12 +69,13 @@ wrong-bits-requires c κs = search needs
 -- src/signal_reader.rt:150:9
 returns-4 : tie.Need-returns-4
 unfolding signalRules
-returns-4 c = 
-    rw
-    ( sym (c .before .before .before .before .before .before .before .before .wrong-length .ensures) ∙ c .before .before .before .before .before .before .before .if1 .left
-    , agrees (num 2 20 (now (c .before .before .before .before .before .before .before .before .before .before .args .d)) / 16384) 1 (sym (ap (λ (n : ℕ). n / 16384) (c .before .before .before .before .before .before .u16-at .ensures)) ∙ c .before .before .before .before .before .if2 .left)
-    , agrees (num 2 22 (now (c .before .before .before .before .before .before .before .before .before .before .args .d))) 100 (sym (c .before .before .before .before .u16-at2 .ensures) ∙ c .before .before .before .if3 .left)
-    , sym (c .before .wrong-bits .ensures ∙ ap wrongBits (c .before .before .u16-at3 .ensures)) ∙ c .if4 .taken )
+returns-4 c =
+    rw (
+      sym (c .before .before .before .before .before .before .before .before .wrong-length .ensures) ∙ c .before .before .before .before .before .before .before .if1 .left,
+      agrees (num 2 20 (now (c .before .before .before .before .before .before .before .before .before .before .args .d)) / 16384) 1 (sym (ap (λ (n : ℕ). n / 16384) (c .before .before .before .before .before .before .u16-at .ensures)) ∙ c .before .before .before .before .before .if2 .left),
+      agrees (num 2 22 (now (c .before .before .before .before .before .before .before .before .before .before .args .d))) 100 (sym (c .before .before .before .before .u16-at2 .ensures) ∙ c .before .before .before .if3 .left),
+      sym (c .before .wrong-bits .ensures ∙ ap wrongBits (c .before .before .u16-at3 .ensures)) ∙ c .if4 .taken,
+    )
 
 -- src/signal_reader.rt:152:32
 add-filled-size : tie.Need-add-filled-size
@@ -89,13 +92,14 @@ filled-size-requires c κs = search needs
 -- src/signal_reader.rt:153:9
 returns-5 : tie.Need-returns-5
 unfolding signalRules
-returns-5 c = 
-    rw
-    ( sym (c .before .before .before .before .before .before .before .before .before .before .wrong-length .ensures) ∙ c .before .before .before .before .before .before .before .before .before .if1 .left
-    , agrees (num 2 20 (now (c .before .before .before .before .before .before .before .before .before .before .before .before .args .d)) / 16384) 1 (sym (ap (λ (n : ℕ). n / 16384) (c .before .before .before .before .before .before .before .before .u16-at .ensures)) ∙ c .before .before .before .before .before .before .before .if2 .left)
-    , agrees (num 2 22 (now (c .before .before .before .before .before .before .before .before .before .before .before .before .args .d))) 100 (sym (c .before .before .before .before .before .before .u16-at2 .ensures) ∙ c .before .before .before .before .before .if3 .left)
-    , sym (c .before .before .before .wrong-bits .ensures ∙ ap wrongBits (c .before .before .before .before .u16-at3 .ensures)) ∙ c .before .before .if4 .left
-    , differs (length (now (c .before .before .before .before .before .before .before .before .before .before .before .before .args .d))) (filled (32 + (num 2 28 (now (c .before .before .before .before .before .before .before .before .before .before .before .before .args .d))) / 8)) (λ e. c .if5 .taken (e ∙ sym (c .before .filled-size .ensures ∙ ap (λ (n : ℕ). filled (32 + n / 8)) (c .before .before .before .before .u16-at3 .ensures)))) )
+returns-5 c =
+    rw (
+      sym (c .before .before .before .before .before .before .before .before .before .before .wrong-length .ensures) ∙ c .before .before .before .before .before .before .before .before .before .if1 .left,
+      agrees (num 2 20 (now (c .before .before .before .before .before .before .before .before .before .before .before .before .args .d)) / 16384) 1 (sym (ap (λ (n : ℕ). n / 16384) (c .before .before .before .before .before .before .before .before .u16-at .ensures)) ∙ c .before .before .before .before .before .before .before .if2 .left),
+      agrees (num 2 22 (now (c .before .before .before .before .before .before .before .before .before .before .before .before .args .d))) 100 (sym (c .before .before .before .before .before .before .u16-at2 .ensures) ∙ c .before .before .before .before .before .if3 .left),
+      sym (c .before .before .before .wrong-bits .ensures ∙ ap wrongBits (c .before .before .before .before .u16-at3 .ensures)) ∙ c .before .before .if4 .left,
+      differs (length (now (c .before .before .before .before .before .before .before .before .before .before .before .before .args .d))) (filled (32 + (num 2 28 (now (c .before .before .before .before .before .before .before .before .before .before .before .before .args .d))) / 8)) (λ e. c .if5 .taken (e ∙ sym (c .before .filled-size .ensures ∙ ap (λ (n : ℕ). filled (32 + n / 8)) (c .before .before .before .before .u16-at3 .ensures)))),
+    )
 
 -- src/signal_reader.rt:155:23
 sub-inner-refusal : tie.Need-sub-inner-refusal
@@ -112,13 +116,14 @@ inner-refusal-requires c κs = omega (arith, right-bits (c .before .before .befo
 -- src/signal_reader.rt:135:1
 returns-6 : tie.Need-returns-6
 unfolding signalRules
-returns-6 c = 
-    rw
-    ( sym (c .before .before .before .before .before .before .before .before .before .before .before .wrong-length .ensures) ∙ c .before .before .before .before .before .before .before .before .before .before .if1 .left
-    , agrees (num 2 20 (now (c .before .before .before .before .before .before .before .before .before .before .before .before .before .args .d)) / 16384) 1 (sym (ap (λ (n : ℕ). n / 16384) (c .before .before .before .before .before .before .before .before .before .u16-at .ensures)) ∙ c .before .before .before .before .before .before .before .before .if2 .left)
-    , agrees (num 2 22 (now (c .before .before .before .before .before .before .before .before .before .before .before .before .before .args .d))) 100 (sym (c .before .before .before .before .before .before .before .u16-at2 .ensures) ∙ c .before .before .before .before .before .before .if3 .left)
-    , sym (c .before .before .before .before .wrong-bits .ensures ∙ ap wrongBits (c .before .before .before .before .before .u16-at3 .ensures)) ∙ c .before .before .before .if4 .left
-    , agrees (length (now (c .before .before .before .before .before .before .before .before .before .before .before .before .before .args .d))) (filled (32 + (num 2 28 (now (c .before .before .before .before .before .before .before .before .before .before .before .before .before .args .d))) / 8)) (c .before .if5 .left ∙ (c .before .before .filled-size .ensures ∙ ap (λ (n : ℕ). filled (32 + n / 8)) (c .before .before .before .before .before .u16-at3 .ensures))) )
+returns-6 c =
+    rw (
+      sym (c .before .before .before .before .before .before .before .before .before .before .before .wrong-length .ensures) ∙ c .before .before .before .before .before .before .before .before .before .before .if1 .left,
+      agrees (num 2 20 (now (c .before .before .before .before .before .before .before .before .before .before .before .before .before .args .d)) / 16384) 1 (sym (ap (λ (n : ℕ). n / 16384) (c .before .before .before .before .before .before .before .before .before .u16-at .ensures)) ∙ c .before .before .before .before .before .before .before .before .if2 .left),
+      agrees (num 2 22 (now (c .before .before .before .before .before .before .before .before .before .before .before .before .before .args .d))) 100 (sym (c .before .before .before .before .before .before .before .u16-at2 .ensures) ∙ c .before .before .before .before .before .before .if3 .left),
+      sym (c .before .before .before .before .wrong-bits .ensures ∙ ap wrongBits (c .before .before .before .before .before .u16-at3 .ensures)) ∙ c .before .before .before .if4 .left,
+      agrees (length (now (c .before .before .before .before .before .before .before .before .before .before .before .before .before .args .d))) (filled (32 + (num 2 28 (now (c .before .before .before .before .before .before .before .before .before .before .before .before .before .args .d))) / 8)) (c .before .if5 .left ∙ (c .before .before .filled-size .ensures ∙ ap (λ (n : ℕ). filled (32 + n / 8)) (c .before .before .before .before .before .u16-at3 .ensures))),
+    )
     (c .inner-refusal .ensures
     ∙ ap (λ (n : ℕ). first (networkRules (signalOf (now (c .before .before .before .before .before .before .before .before .before .before .before .before .before .args .d)) .network) ++ bodyRules (signalOf (now (c .before .before .before .before .before .before .before .before .before .before .before .before .before .args .d)) .network .«message_type») (n / 8 - 20))) (c .before .before .before .before .before .u16-at3 .ensures))
 

@@ -51,14 +51,15 @@ same-length c = search needs
 -- src/signal_writer.rt:49:1
 returns : tie.Need-returns
 unfolding signalHead
-returns c = 
-    rw
-    ( c .before .before .put-u164 .ensures
-    , c .before .before .before .before .before .before .put-u163 .ensures
-    , c .before .before .before .before .before .before .before .before .before .before .put-u32 .ensures
-    , c .before .before .before .before .before .before .before .before .before .before .before .before .before .before .put-u162 .ensures
-    , c .before .before .before .before .before .before .before .before .before .before .before .before .before .before .before .before .before .before .put-u16 .ensures
-    , plain (c .before .before .before .before .before .before .before .before .before .before .before .before .before .before .before .before .before .before .before .before .before .before .args .s .encoding) )
+returns c =
+    rw (
+      c .before .before .put-u164 .ensures,
+      c .before .before .before .before .before .before .put-u163 .ensures,
+      c .before .before .before .before .before .before .before .before .before .before .put-u32 .ensures,
+      c .before .before .before .before .before .before .before .before .before .before .before .before .before .before .put-u162 .ensures,
+      c .before .before .before .before .before .before .before .before .before .before .before .before .before .before .before .before .before .before .put-u16 .ensures,
+      plain (c .before .before .before .before .before .before .before .before .before .before .before .before .before .before .before .before .before .before .before .before .before .before .args .s .encoding),
+    )
 
 pub put-encoding-spec : {M : Type 1} → statement M
 put-encoding-spec =

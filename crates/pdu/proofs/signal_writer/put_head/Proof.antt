@@ -36,12 +36,13 @@ same-length c = search needs
 -- src/signal_writer.rt:80:1
 returns : tie.Need-returns
 unfolding signalHead
-returns c = 
-    rw
-    ( c .before .before .put-network .ensures
-    , c .before .before .before .before .before .before .put-encoding .ensures
-    , c .before .before .before .before .before .before .before .before .before .before .put-header .ensures
-    , c .before .before .before .before .before .before .before .before .before .before .before .before .signal-size .ensures )
+returns c =
+    rw (
+      c .before .before .put-network .ensures,
+      c .before .before .before .before .before .before .put-encoding .ensures,
+      c .before .before .before .before .before .before .before .before .before .before .put-header .ensures,
+      c .before .before .before .before .before .before .before .before .before .before .before .before .signal-size .ensures,
+    )
 
 pub put-head-spec : {M : Type 1} → statement M
 put-head-spec =

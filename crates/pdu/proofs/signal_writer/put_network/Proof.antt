@@ -54,18 +54,19 @@ same-length c = search needs
 -- src/signal_writer.rt:65:1
 returns : tie.Need-returns
 unfolding signalHead
-returns c = 
-    rw
-    ( c .before .before .put-u64 .ensures
-    , c .before .before .before .before .before .before .put-u32 .ensures
-    , c .before .before .before .before .before .before .before .slot-id .ensures
-    , c .before .before .before .before .before .before .before .before .before .before .before .put-u162 .ensures
-    , c .before .before .before .before .before .before .before .before .before .before .before .before .before .before .before .put-u84 .ensures
-    , c .before .before .before .before .before .before .before .before .before .before .before .before .before .before .before .before .before .before .before .put-u83 .ensures
-    , c .before .before .before .before .before .before .before .before .before .before .before .before .before .before .before .before .before .before .before .before .before .before .before .put-u82 .ensures
-    , c .before .before .before .before .before .before .before .before .before .before .before .before .before .before .before .before .before .before .before .before .before .before .before .before .before .before .before .put-u8 .ensures
-    , c .before .before .before .before .before .before .before .before .before .before .before .before .before .before .before .before .before .before .before .before .before .before .before .before .before .before .before .before .before .before .before .put-u16 .ensures
-    , plain (c .before .before .before .before .before .before .before .before .before .before .before .before .before .before .before .before .before .before .before .before .before .before .before .before .before .before .before .before .before .before .before .before .before .before .args .s .network .slot) )
+returns c =
+    rw (
+      c .before .before .put-u64 .ensures,
+      c .before .before .before .before .before .before .put-u32 .ensures,
+      c .before .before .before .before .before .before .before .slot-id .ensures,
+      c .before .before .before .before .before .before .before .before .before .before .before .put-u162 .ensures,
+      c .before .before .before .before .before .before .before .before .before .before .before .before .before .before .before .put-u84 .ensures,
+      c .before .before .before .before .before .before .before .before .before .before .before .before .before .before .before .before .before .before .before .put-u83 .ensures,
+      c .before .before .before .before .before .before .before .before .before .before .before .before .before .before .before .before .before .before .before .before .before .before .before .put-u82 .ensures,
+      c .before .before .before .before .before .before .before .before .before .before .before .before .before .before .before .before .before .before .before .before .before .before .before .before .before .before .before .put-u8 .ensures,
+      c .before .before .before .before .before .before .before .before .before .before .before .before .before .before .before .before .before .before .before .before .before .before .before .before .before .before .before .before .before .before .before .put-u16 .ensures,
+      plain (c .before .before .before .before .before .before .before .before .before .before .before .before .before .before .before .before .before .before .before .before .before .before .before .before .before .before .before .before .before .before .before .before .before .before .args .s .network .slot),
+    )
 
 pub put-network-spec : {M : Type 1} → statement M
 put-network-spec =

@@ -27,9 +27,9 @@ wrong-version-requires c κs = search needs
 -- src/signal_writer.rt:33:9
 returns : tie.Need-returns
 unfolding signalWriting
-returns c = 
+returns c =
     rw
-    ( sym (c .before .wrong-version .ensures) ∙ c .if1 .taken )
+    (sym (c .before .wrong-version .ensures) ∙ c .if1 .taken)
 
 -- src/signal_writer.rt:35:8
 sub-if2 : tie.Need-sub-if2
@@ -38,10 +38,11 @@ sub-if2 c = search needs
 -- src/signal_writer.rt:36:9
 returns-2 : tie.Need-returns-2
 unfolding signalWriting
-returns-2 c = 
-    rw
-    ( sym (c .before .before .before .wrong-version .ensures) ∙ c .before .before .if1 .left
-    , lt-ltb 16383 (c .before .before .before .before .before .args .s .encoding) (c .if2 .taken) )
+returns-2 c =
+    rw (
+      sym (c .before .before .before .wrong-version .ensures) ∙ c .before .before .if1 .left,
+      lt-ltb 16383 (c .before .before .before .before .before .args .s .encoding) (c .if2 .taken),
+    )
 
 -- src/signal_writer.rt:38:9
 inner-refusal-requires : tie.Need-inner-refusal-requires
@@ -50,10 +51,11 @@ inner-refusal-requires c κs = search needs
 -- src/signal_writer.rt:40:9
 returns-3 : tie.Need-returns-3
 unfolding signalWriting
-returns-3 c = 
-    rw
-    ( sym (c .before .before .before .before .before .wrong-version .ensures) ∙ c .before .before .before .before .if1 .left
-    , le-ltb 16383 (c .before .before .before .before .before .before .before .args .s .encoding) (c .before .before .if2 .left) ) (c .before .inner-refusal .ensures ∙ sym (first-here ((networkRules (c .before .before .before .before .before .before .before .args .s .network)) ++ (bodyRules (c .before .before .before .before .before .before .before .args .s .network .«message_type») (length (now (c .before .before .before .before .before .before .before .args .body))))) ((16 given-when ltb (c .before .before .before .before .before .before .before .args .room) (signalSize (length (now (c .before .before .before .before .before .before .before .args .body))))) ∷ []) (λ e. c .if3 .taken (c .before .inner-refusal .ensures ∙ e))))
+returns-3 c =
+    rw (
+      sym (c .before .before .before .before .before .wrong-version .ensures) ∙ c .before .before .before .before .if1 .left,
+      le-ltb 16383 (c .before .before .before .before .before .before .before .args .s .encoding) (c .before .before .if2 .left),
+    ) (c .before .inner-refusal .ensures ∙ sym (first-here ((networkRules (c .before .before .before .before .before .before .before .args .s .network)) ++ (bodyRules (c .before .before .before .before .before .before .before .args .s .network .«message_type») (length (now (c .before .before .before .before .before .before .before .args .body))))) ((16 given-when ltb (c .before .before .before .before .before .before .before .args .room) (signalSize (length (now (c .before .before .before .before .before .before .before .args .body))))) ∷ []) (λ e. c .if3 .taken (c .before .inner-refusal .ensures ∙ e))))
 
 -- src/signal_writer.rt:42:15
 signal-size-requires : tie.Need-signal-size-requires
@@ -62,22 +64,24 @@ signal-size-requires c κs = omega (arith, body-short (c .before .before .before
 -- src/signal_writer.rt:43:9
 returns-4 : tie.Need-returns-4
 unfolding signalWriting
-returns-4 c = 
-    rw
-    ( sym (c .before .before .before .before .before .before .before .wrong-version .ensures) ∙ c .before .before .before .before .before .before .if1 .left
-    , le-ltb 16383 (c .before .before .before .before .before .before .before .before .before .args .s .encoding) (c .before .before .before .before .if2 .left)
-    , first-next ((networkRules (c .before .before .before .before .before .before .before .before .before .args .s .network)) ++ (bodyRules (c .before .before .before .before .before .before .before .before .before .args .s .network .«message_type») (length (now (c .before .before .before .before .before .before .before .before .before .args .body))))) ((16 given-when ltb (c .before .before .before .before .before .before .before .before .before .args .room) (signalSize (length (now (c .before .before .before .before .before .before .before .before .before .args .body))))) ∷ []) (inner-numbered (c .before .before .before .before .before .before .before .before .before .args .s .network) (c .before .before .before .before .before .before .before .before .before .args .s .network .«message_type») (length (now (c .before .before .before .before .before .before .before .before .before .args .body)))) (sym (c .before .before .before .inner-refusal .ensures) ∙ c .before .before .if3 .left)
-    , lt-ltb (c .before .before .before .before .before .before .before .before .before .args .room) (signalSize (length (now (c .before .before .before .before .before .before .before .before .before .args .body)))) (rw (c .before .signal-size .ensures) at (c .if4 .taken)) )
+returns-4 c =
+    rw (
+      sym (c .before .before .before .before .before .before .before .wrong-version .ensures) ∙ c .before .before .before .before .before .before .if1 .left,
+      le-ltb 16383 (c .before .before .before .before .before .before .before .before .before .args .s .encoding) (c .before .before .before .before .if2 .left),
+      first-next ((networkRules (c .before .before .before .before .before .before .before .before .before .args .s .network)) ++ (bodyRules (c .before .before .before .before .before .before .before .before .before .args .s .network .«message_type») (length (now (c .before .before .before .before .before .before .before .before .before .args .body))))) ((16 given-when ltb (c .before .before .before .before .before .before .before .before .before .args .room) (signalSize (length (now (c .before .before .before .before .before .before .before .before .before .args .body))))) ∷ []) (inner-numbered (c .before .before .before .before .before .before .before .before .before .args .s .network) (c .before .before .before .before .before .before .before .before .before .args .s .network .«message_type») (length (now (c .before .before .before .before .before .before .before .before .before .args .body)))) (sym (c .before .before .before .inner-refusal .ensures) ∙ c .before .before .if3 .left),
+      lt-ltb (c .before .before .before .before .before .before .before .before .before .args .room) (signalSize (length (now (c .before .before .before .before .before .before .before .before .before .args .body)))) (rw (c .before .signal-size .ensures) at (c .if4 .taken)),
+    )
 
 -- src/signal_writer.rt:29:1
 returns-5 : tie.Need-returns-5
 unfolding signalWriting
-returns-5 c = 
-    rw
-    ( sym (c .before .before .before .before .before .before .before .wrong-version .ensures) ∙ c .before .before .before .before .before .before .if1 .left
-    , le-ltb 16383 (c .before .before .before .before .before .before .before .before .before .args .s .encoding) (c .before .before .before .before .if2 .left)
-    , first-next ((networkRules (c .before .before .before .before .before .before .before .before .before .args .s .network)) ++ (bodyRules (c .before .before .before .before .before .before .before .before .before .args .s .network .«message_type») (length (now (c .before .before .before .before .before .before .before .before .before .args .body))))) ((16 given-when ltb (c .before .before .before .before .before .before .before .before .before .args .room) (signalSize (length (now (c .before .before .before .before .before .before .before .before .before .args .body))))) ∷ []) (inner-numbered (c .before .before .before .before .before .before .before .before .before .args .s .network) (c .before .before .before .before .before .before .before .before .before .args .s .network .«message_type») (length (now (c .before .before .before .before .before .before .before .before .before .args .body)))) (sym (c .before .before .before .inner-refusal .ensures) ∙ c .before .before .if3 .left)
-    , le-ltb (c .before .before .before .before .before .before .before .before .before .args .room) (signalSize (length (now (c .before .before .before .before .before .before .before .before .before .args .body)))) (rw (c .before .signal-size .ensures) at (c .if4 .left)) )
+returns-5 c =
+    rw (
+      sym (c .before .before .before .before .before .before .before .wrong-version .ensures) ∙ c .before .before .before .before .before .before .if1 .left,
+      le-ltb 16383 (c .before .before .before .before .before .before .before .before .before .args .s .encoding) (c .before .before .before .before .if2 .left),
+      first-next ((networkRules (c .before .before .before .before .before .before .before .before .before .args .s .network)) ++ (bodyRules (c .before .before .before .before .before .before .before .before .before .args .s .network .«message_type») (length (now (c .before .before .before .before .before .before .before .before .before .args .body))))) ((16 given-when ltb (c .before .before .before .before .before .before .before .before .before .args .room) (signalSize (length (now (c .before .before .before .before .before .before .before .before .before .args .body))))) ∷ []) (inner-numbered (c .before .before .before .before .before .before .before .before .before .args .s .network) (c .before .before .before .before .before .before .before .before .before .args .s .network .«message_type») (length (now (c .before .before .before .before .before .before .before .before .before .args .body)))) (sym (c .before .before .before .inner-refusal .ensures) ∙ c .before .before .if3 .left),
+      le-ltb (c .before .before .before .before .before .before .before .before .before .args .room) (signalSize (length (now (c .before .before .before .before .before .before .before .before .before .args .body)))) (rw (c .before .signal-size .ensures) at (c .if4 .left)),
+    )
 
 pub refusal-spec : {M : Type 1} → statement M
 refusal-spec =

@@ -34,12 +34,13 @@ read-sync-requires c κs = search needs
 returns : tie.Need-returns
 unfolding headerOf transmitterOf
 returns c = λ i.
-    record
-    { header = c .before .before .before .before .read-header .ensures i
-    ; entity = c .before .before .before .read-entity .ensures i
-    ; antenna = c .before .before .read-antenna .ensures i
-    ; emission = c .before .read-emission .ensures i
-    ; sync = c .read-sync .ensures i }
+    record {
+      header = c .before .before .before .before .read-header .ensures i;
+      entity = c .before .before .before .read-entity .ensures i;
+      antenna = c .before .before .read-antenna .ensures i;
+      emission = c .before .read-emission .ensures i;
+      sync = c .read-sync .ensures i;
+    }
 
 pub fields-spec : {M : Type 1} → statement M
 fields-spec =

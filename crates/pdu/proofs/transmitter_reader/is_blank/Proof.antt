@@ -33,14 +33,15 @@ both-requires-2 c κs = search needs
 
 -- src/transmitter_reader.rt:155:1
 returns : tie.Need-returns
-returns c = 
-    rw
-    ( c .both2 .ensures
-    , c .before .u16-at2 .ensures
-    , c .before .before .both .ensures
-    , c .before .before .before .u24-at .ensures
-    , c .before .before .before .before .u16-at .ensures
-    , and-true (eqb (num 3 101 (now (c .before .before .before .before .before .before .args .d))) 0) )
+returns c =
+    rw (
+      c .both2 .ensures,
+      c .before .u16-at2 .ensures,
+      c .before .before .both .ensures,
+      c .before .before .before .u24-at .ensures,
+      c .before .before .before .before .u16-at .ensures,
+      and-true (eqb (num 3 101 (now (c .before .before .before .before .before .before .args .d))) 0),
+    )
 
 pub is-blank-spec : {M : Type 1} → statement M
 is-blank-spec =

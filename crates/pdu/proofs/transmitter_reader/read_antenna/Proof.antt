@@ -40,14 +40,15 @@ u16-at-requires c κs = search needs
 returns : tie.Need-returns
 unfolding transmitterOf
 returns c = λ i.
-    record
-    { x = c .before .before .before .before .before .before .u64-at .ensures i
-    ; y = c .before .before .before .before .before .u64-at2 .ensures i
-    ; z = c .before .before .before .before .u64-at3 .ensures i
-    ; dx = c .before .before .before .u32-at .ensures i
-    ; dy = c .before .before .u32-at2 .ensures i
-    ; dz = c .before .u32-at3 .ensures i
-    ; pattern = c .u16-at .ensures i }
+    record {
+      x = c .before .before .before .before .before .before .u64-at .ensures i;
+      y = c .before .before .before .before .before .u64-at2 .ensures i;
+      z = c .before .before .before .before .u64-at3 .ensures i;
+      dx = c .before .before .before .u32-at .ensures i;
+      dy = c .before .before .u32-at2 .ensures i;
+      dz = c .before .u32-at3 .ensures i;
+      pattern = c .u16-at .ensures i;
+    }
 
 pub read-antenna-spec : {M : Type 1} → statement M
 read-antenna-spec =

@@ -41,14 +41,15 @@ u16-at-requires-3 c κs = search needs
 returns : tie.Need-returns
 unfolding transmitterOf
 returns c = λ i.
-    record
-    { state = c .before .before .before .before .before .before .u8-at .ensures i
-    ; frequency = c .before .before .before .before .before .u64-at .ensures i
-    ; bandwidth = c .before .before .before .before .u32-at .ensures i
-    ; power = c .before .before .before .u32-at2 .ensures i
-    ; spread = c .before .before .u16-at .ensures i
-    ; crypto = c .before .u16-at2 .ensures i
-    ; key = c .u16-at3 .ensures i }
+    record {
+      state = c .before .before .before .before .before .before .u8-at .ensures i;
+      frequency = c .before .before .before .before .before .u64-at .ensures i;
+      bandwidth = c .before .before .before .before .u32-at .ensures i;
+      power = c .before .before .before .u32-at2 .ensures i;
+      spread = c .before .before .u16-at .ensures i;
+      crypto = c .before .u16-at2 .ensures i;
+      key = c .u16-at3 .ensures i;
+    }
 
 pub read-emission-spec : {M : Type 1} → statement M
 read-emission-spec =

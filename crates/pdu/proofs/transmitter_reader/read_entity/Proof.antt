@@ -31,12 +31,13 @@ u16-at-requires-2 c κs = search needs
 returns : tie.Need-returns
 unfolding transmitterOf
 returns c = λ i.
-    record
-    { kind = c .before .before .before .before .u8-at .ensures i
-    ; domain = c .before .before .before .u8-at2 .ensures i
-    ; country = c .before .before .u16-at .ensures i
-    ; version = c .before .u8-at3 .ensures i
-    ; nomenclature = c .u16-at2 .ensures i }
+    record {
+      kind = c .before .before .before .before .u8-at .ensures i;
+      domain = c .before .before .before .u8-at2 .ensures i;
+      country = c .before .before .u16-at .ensures i;
+      version = c .before .u8-at3 .ensures i;
+      nomenclature = c .u16-at2 .ensures i;
+    }
 
 pub read-entity-spec : {M : Type 1} → statement M
 read-entity-spec =

@@ -31,12 +31,13 @@ u32-at-requires c κs = search needs
 returns : tie.Need-returns
 unfolding transmitterOf
 returns c = λ i.
-    record
-    { level = c .before .before .before .before .u8-at .ensures i
-    ; primary = c .before .before .before .u8-at2 .ensures i
-    ; secondary = c .before .before .u8-at3 .ensures i
-    ; state = c .before .u8-at4 .ensures i
-    ; id = c .u32-at .ensures i }
+    record {
+      level = c .before .before .before .before .u8-at .ensures i;
+      primary = c .before .before .before .u8-at2 .ensures i;
+      secondary = c .before .before .u8-at3 .ensures i;
+      state = c .before .u8-at4 .ensures i;
+      id = c .u32-at .ensures i;
+    }
 
 pub read-sync-spec : {M : Type 1} → statement M
 read-sync-spec =

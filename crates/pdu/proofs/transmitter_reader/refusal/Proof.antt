@@ -24,9 +24,9 @@ wrong-length-requires c κs = search needs
 -- src/transmitter_reader.rt:75:9
 returns : tie.Need-returns
 unfolding transmitterRules
-returns c = 
+returns c =
     rw
-    ( sym (c .before .wrong-length .ensures) ∙ c .if1 .taken )
+    (sym (c .before .wrong-length .ensures) ∙ c .if1 .taken)
 
 -- src/transmitter_reader.rt:77:8
 wrong-fixed-requires : tie.Need-wrong-fixed-requires
@@ -35,10 +35,11 @@ wrong-fixed-requires c κs = omega (arith, right-length 104 (now (c .before .bef
 -- src/transmitter_reader.rt:78:9
 returns-2 : tie.Need-returns-2
 unfolding transmitterRules
-returns-2 c = 
-    rw
-    ( sym (c .before .before .before .wrong-length .ensures) ∙ c .before .before .if1 .left
-    , sym (c .before .wrong-fixed .ensures) ∙ c .if2 .taken )
+returns-2 c =
+    rw (
+      sym (c .before .before .before .wrong-length .ensures) ∙ c .before .before .if1 .left,
+      sym (c .before .wrong-fixed .ensures) ∙ c .if2 .taken,
+    )
 
 -- src/transmitter_reader.rt:80:8
 u8-at-requires : tie.Need-u8-at-requires
@@ -47,11 +48,12 @@ u8-at-requires c κs = omega (arith, right-length 104 (now (c .before .before .b
 -- src/transmitter_reader.rt:81:9
 returns-3 : tie.Need-returns-3
 unfolding transmitterRules
-returns-3 c = 
-    rw
-    ( sym (c .before .before .before .before .before .wrong-length .ensures) ∙ c .before .before .before .before .if1 .left
-    , sym (c .before .before .before .wrong-fixed .ensures) ∙ c .before .before .if2 .left
-    , differs (num 1 100 (now (c .before .before .before .before .before .before .before .args .d))) 8 (λ e. c .if3 .taken (c .before .u8-at .ensures ∙ e)) )
+returns-3 c =
+    rw (
+      sym (c .before .before .before .before .before .wrong-length .ensures) ∙ c .before .before .before .before .if1 .left,
+      sym (c .before .before .before .wrong-fixed .ensures) ∙ c .before .before .if2 .left,
+      differs (num 1 100 (now (c .before .before .before .before .before .before .before .args .d))) 8 (λ e. c .if3 .taken (c .before .u8-at .ensures ∙ e)),
+    )
 
 -- src/transmitter_reader.rt:83:8
 u16-at-requires : tie.Need-u16-at-requires
@@ -60,23 +62,25 @@ u16-at-requires c κs = omega (arith, right-length 104 (now (c .before .before .
 -- src/transmitter_reader.rt:84:9
 returns-4 : tie.Need-returns-4
 unfolding transmitterRules
-returns-4 c = 
-    rw
-    ( sym (c .before .before .before .before .before .before .before .wrong-length .ensures) ∙ c .before .before .before .before .before .before .if1 .left
-    , sym (c .before .before .before .before .before .wrong-fixed .ensures) ∙ c .before .before .before .before .if2 .left
-    , agrees (num 1 100 (now (c .before .before .before .before .before .before .before .before .before .args .d))) 8 (sym (c .before .before .before .u8-at .ensures) ∙ c .before .before .if3 .left)
-    , differs (num 2 70 (now (c .before .before .before .before .before .before .before .before .before .args .d))) 0 (λ e. c .if4 .taken (c .before .u16-at .ensures ∙ e)) )
+returns-4 c =
+    rw (
+      sym (c .before .before .before .before .before .before .before .wrong-length .ensures) ∙ c .before .before .before .before .before .before .if1 .left,
+      sym (c .before .before .before .before .before .wrong-fixed .ensures) ∙ c .before .before .before .before .if2 .left,
+      agrees (num 1 100 (now (c .before .before .before .before .before .before .before .before .before .args .d))) 8 (sym (c .before .before .before .u8-at .ensures) ∙ c .before .before .if3 .left),
+      differs (num 2 70 (now (c .before .before .before .before .before .before .before .before .before .args .d))) 0 (λ e. c .if4 .taken (c .before .u16-at .ensures ∙ e)),
+    )
 
 -- src/transmitter_reader.rt:87:9
 returns-5 : tie.Need-returns-5
 unfolding transmitterRules
-returns-5 c = 
-    rw
-    ( sym (c .before .before .before .before .before .before .before .before .wrong-length .ensures) ∙ c .before .before .before .before .before .before .before .if1 .left
-    , sym (c .before .before .before .before .before .before .wrong-fixed .ensures) ∙ c .before .before .before .before .before .if2 .left
-    , agrees (num 1 100 (now (c .before .before .before .before .before .before .before .before .before .before .args .d))) 8 (sym (c .before .before .before .before .u8-at .ensures) ∙ c .before .before .before .if3 .left)
-    , agrees (num 2 70 (now (c .before .before .before .before .before .before .before .before .before .before .args .d))) 0 (sym (c .before .before .u16-at .ensures) ∙ c .before .if4 .left)
-    , differs (length (now (c .before .before .before .before .before .before .before .before .before .before .args .d))) 112 (c .if5 .taken) )
+returns-5 c =
+    rw (
+      sym (c .before .before .before .before .before .before .before .before .wrong-length .ensures) ∙ c .before .before .before .before .before .before .before .if1 .left,
+      sym (c .before .before .before .before .before .before .wrong-fixed .ensures) ∙ c .before .before .before .before .before .if2 .left,
+      agrees (num 1 100 (now (c .before .before .before .before .before .before .before .before .before .before .args .d))) 8 (sym (c .before .before .before .before .u8-at .ensures) ∙ c .before .before .before .if3 .left),
+      agrees (num 2 70 (now (c .before .before .before .before .before .before .before .before .before .before .args .d))) 0 (sym (c .before .before .u16-at .ensures) ∙ c .before .if4 .left),
+      differs (length (now (c .before .before .before .before .before .before .before .before .before .before .args .d))) 112 (c .if5 .taken),
+    )
 
 -- src/transmitter_reader.rt:89:19
 read-sync-requires : tie.Need-read-sync-requires
@@ -89,26 +93,28 @@ wrong-sync-requires c κs = search needs
 -- src/transmitter_reader.rt:90:9
 returns-6 : tie.Need-returns-6
 unfolding transmitterRules
-returns-6 c = 
-    rw
-    ( sym (c .before .before .before .before .before .before .before .before .before .before .before .wrong-length .ensures) ∙ c .before .before .before .before .before .before .before .before .before .before .if1 .left
-    , sym (c .before .before .before .before .before .before .before .before .before .wrong-fixed .ensures) ∙ c .before .before .before .before .before .before .before .before .if2 .left
-    , agrees (num 1 100 (now (c .before .before .before .before .before .before .before .before .before .before .before .before .before .args .d))) 8 (sym (c .before .before .before .before .before .before .before .u8-at .ensures) ∙ c .before .before .before .before .before .before .if3 .left)
-    , agrees (num 2 70 (now (c .before .before .before .before .before .before .before .before .before .before .before .before .before .args .d))) 0 (sym (c .before .before .before .before .before .u16-at .ensures) ∙ c .before .before .before .before .if4 .left)
-    , agrees (length (now (c .before .before .before .before .before .before .before .before .before .before .before .before .before .args .d))) 112 (c .before .before .before .if5 .left)
-    , sym (c .before .wrong-sync .ensures ∙ ap wrongSync (c .before .before .read-sync .ensures)) ∙ c .if6 .taken )
+returns-6 c =
+    rw (
+      sym (c .before .before .before .before .before .before .before .before .before .before .before .wrong-length .ensures) ∙ c .before .before .before .before .before .before .before .before .before .before .if1 .left,
+      sym (c .before .before .before .before .before .before .before .before .before .wrong-fixed .ensures) ∙ c .before .before .before .before .before .before .before .before .if2 .left,
+      agrees (num 1 100 (now (c .before .before .before .before .before .before .before .before .before .before .before .before .before .args .d))) 8 (sym (c .before .before .before .before .before .before .before .u8-at .ensures) ∙ c .before .before .before .before .before .before .if3 .left),
+      agrees (num 2 70 (now (c .before .before .before .before .before .before .before .before .before .before .before .before .before .args .d))) 0 (sym (c .before .before .before .before .before .u16-at .ensures) ∙ c .before .before .before .before .if4 .left),
+      agrees (length (now (c .before .before .before .before .before .before .before .before .before .before .before .before .before .args .d))) 112 (c .before .before .before .if5 .left),
+      sym (c .before .wrong-sync .ensures ∙ ap wrongSync (c .before .before .read-sync .ensures)) ∙ c .if6 .taken,
+    )
 
 -- src/transmitter_reader.rt:70:1
 returns-7 : tie.Need-returns-7
 unfolding transmitterRules
-returns-7 c = 
-    rw
-    ( sym (c .before .before .before .before .before .before .before .before .before .before .before .wrong-length .ensures) ∙ c .before .before .before .before .before .before .before .before .before .before .if1 .left
-    , sym (c .before .before .before .before .before .before .before .before .before .wrong-fixed .ensures) ∙ c .before .before .before .before .before .before .before .before .if2 .left
-    , agrees (num 1 100 (now (c .before .before .before .before .before .before .before .before .before .before .before .before .before .args .d))) 8 (sym (c .before .before .before .before .before .before .before .u8-at .ensures) ∙ c .before .before .before .before .before .before .if3 .left)
-    , agrees (num 2 70 (now (c .before .before .before .before .before .before .before .before .before .before .before .before .before .args .d))) 0 (sym (c .before .before .before .before .before .u16-at .ensures) ∙ c .before .before .before .before .if4 .left)
-    , agrees (length (now (c .before .before .before .before .before .before .before .before .before .before .before .before .before .args .d))) 112 (c .before .before .before .if5 .left)
-    , sym (c .before .wrong-sync .ensures ∙ ap wrongSync (c .before .before .read-sync .ensures)) ∙ c .if6 .left )
+returns-7 c =
+    rw (
+      sym (c .before .before .before .before .before .before .before .before .before .before .before .wrong-length .ensures) ∙ c .before .before .before .before .before .before .before .before .before .before .if1 .left,
+      sym (c .before .before .before .before .before .before .before .before .before .wrong-fixed .ensures) ∙ c .before .before .before .before .before .before .before .before .if2 .left,
+      agrees (num 1 100 (now (c .before .before .before .before .before .before .before .before .before .before .before .before .before .args .d))) 8 (sym (c .before .before .before .before .before .before .before .u8-at .ensures) ∙ c .before .before .before .before .before .before .if3 .left),
+      agrees (num 2 70 (now (c .before .before .before .before .before .before .before .before .before .before .before .before .before .args .d))) 0 (sym (c .before .before .before .before .before .u16-at .ensures) ∙ c .before .before .before .before .if4 .left),
+      agrees (length (now (c .before .before .before .before .before .before .before .before .before .before .before .before .before .args .d))) 112 (c .before .before .before .if5 .left),
+      sym (c .before .wrong-sync .ensures ∙ ap wrongSync (c .before .before .read-sync .ensures)) ∙ c .if6 .left,
+    )
 
 pub refusal-spec : {M : Type 1} → statement M
 refusal-spec =

@@ -46,14 +46,15 @@ same-length c = search needs
 -- src/transmitter_writer.rt:98:1
 returns : tie.Need-returns
 unfolding transmitterBytes
-returns c = 
-    rw
-    ( c .before .before .put-sync .ensures
-    , c .before .before .before .before .before .before .put-modulation .ensures
-    , c .before .before .before .before .before .before .before .before .before .before .put-emission .ensures
-    , c .before .before .before .before .before .before .before .before .before .before .before .before .before .before .put-antenna .ensures
-    , c .before .before .before .before .before .before .before .before .before .before .before .before .before .before .before .before .before .before .put-entity .ensures
-    , c .before .before .before .before .before .before .before .before .before .before .before .before .before .before .before .before .before .before .before .before .before .before .put-header .ensures )
+returns c =
+    rw (
+      c .before .before .put-sync .ensures,
+      c .before .before .before .before .before .before .put-modulation .ensures,
+      c .before .before .before .before .before .before .before .before .before .before .put-emission .ensures,
+      c .before .before .before .before .before .before .before .before .before .before .before .before .before .before .put-antenna .ensures,
+      c .before .before .before .before .before .before .before .before .before .before .before .before .before .before .before .before .before .before .put-entity .ensures,
+      c .before .before .before .before .before .before .before .before .before .before .before .before .before .before .before .before .before .before .before .before .before .before .put-header .ensures,
+    )
 
 pub put-spec : {M : Type 1} → statement M
 put-spec =

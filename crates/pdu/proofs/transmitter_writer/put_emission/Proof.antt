@@ -31,12 +31,13 @@ same-length c = search needs
 -- src/transmitter_writer.rt:61:1
 returns : tie.Need-returns
 unfolding transmitterBytes
-returns c = 
-    rw
-    ( c .before .before .put-u16 .ensures
-    , c .before .before .before .before .before .before .put-u322 .ensures
-    , c .before .before .before .before .before .before .before .before .before .before .put-u32 .ensures
-    , c .before .before .before .before .before .before .before .before .before .before .before .before .before .before .put-u64 .ensures )
+returns c =
+    rw (
+      c .before .before .put-u16 .ensures,
+      c .before .before .before .before .before .before .put-u322 .ensures,
+      c .before .before .before .before .before .before .before .before .before .before .put-u32 .ensures,
+      c .before .before .before .before .before .before .before .before .before .before .before .before .before .before .put-u64 .ensures,
+    )
 
 pub put-emission-spec : {M : Type 1} → statement M
 put-emission-spec =

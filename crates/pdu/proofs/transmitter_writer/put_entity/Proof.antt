@@ -50,17 +50,18 @@ same-length c = search needs
 -- src/transmitter_writer.rt:30:1
 returns : tie.Need-returns
 unfolding transmitterBytes
-returns c = 
-    rw
-    ( c .before .before .put-u163 .ensures
-    , c .before .before .before .before .before .before .put-u86 .ensures
-    , c .before .before .before .before .before .before .before .before .before .before .put-u85 .ensures
-    , c .before .before .before .before .before .before .before .before .before .before .before .before .before .before .put-u162 .ensures
-    , c .before .before .before .before .before .before .before .before .before .before .before .before .before .before .before .before .before .before .put-u84 .ensures
-    , c .before .before .before .before .before .before .before .before .before .before .before .before .before .before .before .before .before .before .before .before .before .before .put-u83 .ensures
-    , c .before .before .before .before .before .before .before .before .before .before .before .before .before .before .before .before .before .before .before .before .before .before .before .before .before .before .put-u16 .ensures
-    , c .before .before .before .before .before .before .before .before .before .before .before .before .before .before .before .before .before .before .before .before .before .before .before .before .before .before .before .before .before .before .put-u82 .ensures
-    , c .before .before .before .before .before .before .before .before .before .before .before .before .before .before .before .before .before .before .before .before .before .before .before .before .before .before .before .before .before .before .before .before .before .before .put-u8 .ensures )
+returns c =
+    rw (
+      c .before .before .put-u163 .ensures,
+      c .before .before .before .before .before .before .put-u86 .ensures,
+      c .before .before .before .before .before .before .before .before .before .before .put-u85 .ensures,
+      c .before .before .before .before .before .before .before .before .before .before .before .before .before .before .put-u162 .ensures,
+      c .before .before .before .before .before .before .before .before .before .before .before .before .before .before .before .before .before .before .put-u84 .ensures,
+      c .before .before .before .before .before .before .before .before .before .before .before .before .before .before .before .before .before .before .before .before .before .before .put-u83 .ensures,
+      c .before .before .before .before .before .before .before .before .before .before .before .before .before .before .before .before .before .before .before .before .before .before .before .before .before .before .put-u16 .ensures,
+      c .before .before .before .before .before .before .before .before .before .before .before .before .before .before .before .before .before .before .before .before .before .before .before .before .before .before .before .before .before .before .put-u82 .ensures,
+      c .before .before .before .before .before .before .before .before .before .before .before .before .before .before .before .before .before .before .before .before .before .before .before .before .before .before .before .before .before .before .before .before .before .before .put-u8 .ensures,
+    )
 
 pub put-entity-spec : {M : Type 1} → statement M
 put-entity-spec =

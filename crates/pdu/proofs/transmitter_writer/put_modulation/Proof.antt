@@ -43,15 +43,16 @@ same-length c = search needs
 -- src/transmitter_writer.rt:72:1
 returns : tie.Need-returns
 unfolding transmitterBytes
-returns c = 
-    rw
-    ( c .before .before .zero .ensures
-    , c .before .before .before .before .before .before .put-u8 .ensures
-    , c .before .before .before .before .before .before .before .before .before .before .put-u165 .ensures
-    , c .before .before .before .before .before .before .before .before .before .before .before .before .before .before .put-u164 .ensures
-    , c .before .before .before .before .before .before .before .before .before .before .before .before .before .before .before .before .before .before .put-u163 .ensures
-    , c .before .before .before .before .before .before .before .before .before .before .before .before .before .before .before .before .before .before .before .before .before .before .put-u162 .ensures
-    , c .before .before .before .before .before .before .before .before .before .before .before .before .before .before .before .before .before .before .before .before .before .before .before .before .before .before .put-u16 .ensures )
+returns c =
+    rw (
+      c .before .before .zero .ensures,
+      c .before .before .before .before .before .before .put-u8 .ensures,
+      c .before .before .before .before .before .before .before .before .before .before .put-u165 .ensures,
+      c .before .before .before .before .before .before .before .before .before .before .before .before .before .before .put-u164 .ensures,
+      c .before .before .before .before .before .before .before .before .before .before .before .before .before .before .before .before .before .before .put-u163 .ensures,
+      c .before .before .before .before .before .before .before .before .before .before .before .before .before .before .before .before .before .before .before .before .before .before .put-u162 .ensures,
+      c .before .before .before .before .before .before .before .before .before .before .before .before .before .before .before .before .before .before .before .before .before .before .before .before .before .before .put-u16 .ensures,
+    )
 
 pub put-modulation-spec : {M : Type 1} → statement M
 put-modulation-spec =

@@ -34,13 +34,14 @@ same-length c = search needs
 -- src/transmitter_writer.rt:86:1
 returns : tie.Need-returns
 unfolding transmitterBytes
-returns c = 
-    rw
-    ( c .before .before .put-u32 .ensures
-    , c .before .before .before .before .before .before .put-u84 .ensures
-    , c .before .before .before .before .before .before .before .before .before .before .put-u83 .ensures
-    , c .before .before .before .before .before .before .before .before .before .before .before .before .before .before .put-u82 .ensures
-    , c .before .before .before .before .before .before .before .before .before .before .before .before .before .before .before .before .before .before .put-u8 .ensures )
+returns c =
+    rw (
+      c .before .before .put-u32 .ensures,
+      c .before .before .before .before .before .before .put-u84 .ensures,
+      c .before .before .before .before .before .before .before .before .before .before .put-u83 .ensures,
+      c .before .before .before .before .before .before .before .before .before .before .before .before .before .before .put-u82 .ensures,
+      c .before .before .before .before .before .before .before .before .before .before .before .before .before .before .before .before .before .before .put-u8 .ensures,
+    )
 
 pub put-sync-spec : {M : Type 1} → statement M
 put-sync-spec =

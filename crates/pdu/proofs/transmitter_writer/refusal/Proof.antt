@@ -16,9 +16,9 @@ wrong-version-requires c κs = search needs
 -- src/transmitter_writer.rt:18:9
 returns : tie.Need-returns
 unfolding transmitterWriting
-returns c = 
+returns c =
     rw
-    ( sym (c .before .wrong-version .ensures) ∙ c .if1 .taken )
+    (sym (c .before .wrong-version .ensures) ∙ c .if1 .taken)
 
 -- src/transmitter_writer.rt:20:8
 wrong-sync-requires : tie.Need-wrong-sync-requires
@@ -27,28 +27,31 @@ wrong-sync-requires c κs = search needs
 -- src/transmitter_writer.rt:21:9
 returns-2 : tie.Need-returns-2
 unfolding transmitterWriting
-returns-2 c = 
-    rw
-    ( sym (c .before .before .before .wrong-version .ensures) ∙ c .before .before .if1 .left
-    , sym (c .before .wrong-sync .ensures) ∙ c .if2 .taken )
+returns-2 c =
+    rw (
+      sym (c .before .before .before .wrong-version .ensures) ∙ c .before .before .if1 .left,
+      sym (c .before .wrong-sync .ensures) ∙ c .if2 .taken,
+    )
 
 -- src/transmitter_writer.rt:24:9
 returns-3 : tie.Need-returns-3
 unfolding transmitterWriting
-returns-3 c = 
-    rw
-    ( sym (c .before .before .before .before .wrong-version .ensures) ∙ c .before .before .before .if1 .left
-    , sym (c .before .before .wrong-sync .ensures) ∙ c .before .if2 .left
-    , lt-ltb (c .before .before .before .before .before .args .room) 112 (c .if3 .taken) )
+returns-3 c =
+    rw (
+      sym (c .before .before .before .before .wrong-version .ensures) ∙ c .before .before .before .if1 .left,
+      sym (c .before .before .wrong-sync .ensures) ∙ c .before .if2 .left,
+      lt-ltb (c .before .before .before .before .before .args .room) 112 (c .if3 .taken),
+    )
 
 -- src/transmitter_writer.rt:14:1
 returns-4 : tie.Need-returns-4
 unfolding transmitterWriting
-returns-4 c = 
-    rw
-    ( sym (c .before .before .before .before .wrong-version .ensures) ∙ c .before .before .before .if1 .left
-    , sym (c .before .before .wrong-sync .ensures) ∙ c .before .if2 .left
-    , le-ltb (c .before .before .before .before .before .args .room) 112 (c .if3 .left) )
+returns-4 c =
+    rw (
+      sym (c .before .before .before .before .wrong-version .ensures) ∙ c .before .before .before .if1 .left,
+      sym (c .before .before .wrong-sync .ensures) ∙ c .before .if2 .left,
+      le-ltb (c .before .before .before .before .before .args .room) 112 (c .if3 .left),
+    )
 
 pub refusal-spec : {M : Type 1} → statement M
 refusal-spec =
