@@ -3,10 +3,13 @@
 -- Assumes nothing.
 use Prim.Native.Nat.{ℕ, _+_, _-_, _/_}
 use mathlib.Core.List.{_++_}
+use mathlib.Core.Bool.{not}
 use mathlib.Core.Path.{sym, ap, _∙_}
+use lib.Dec.{eqb}
 use lib.ListN.{length}
 use denote.Ref.{now}
 use native.Mathlib.Omega.{arith}
+use borrow.Author.Tests.{eqb-true, not-false}
 use borrow.Author.Needs.{needs}
 use Rattle.wire.specs.First.{first}
 use Rattle.wire.specs.Bytes.{num}
@@ -54,16 +57,6 @@ u16-at-requires-3 c κs = omega (arith, right-length 32 (now (c .before .before 
 wrong-bits-requires : tie.Need-wrong-bits-requires
 wrong-bits-requires c κs = search needs
 
-returns-4 : tie.Need-returns-4
-unfolding signalRules
-returns-4 c =
-    rw (
-      sym (c .before .before .before .before .before .before .before .before .wrong-length .ensures) ∙ c .before .before .before .before .before .before .before .if1 .left,
-      agrees (num 2 20 (now (c .before .before .before .before .before .before .before .before .before .before .args .d)) / 16384) 1 (sym (ap (λ (n : ℕ). n / 16384) (c .before .before .before .before .before .before .u16-at .ensures)) ∙ c .before .before .before .before .before .if2 .left),
-      agrees (num 2 22 (now (c .before .before .before .before .before .before .before .before .before .before .args .d))) 100 (sym (c .before .before .before .before .u16-at2 .ensures) ∙ c .before .before .before .if3 .left),
-      sym (c .before .wrong-bits .ensures ∙ ap wrongBits (c .before .before .u16-at3 .ensures)) ∙ c .if4 .taken,
-    )
-
 add-filled-size : tie.Need-add-filled-size
 add-filled-size c = search needs
 
@@ -73,38 +66,51 @@ cast-filled-size c = search needs
 filled-size-requires : tie.Need-filled-size-requires
 filled-size-requires c κs = search needs
 
-returns-5 : tie.Need-returns-5
+no-requires : tie.Need-no-requires
+no-requires c κs = search needs
+
+returns-4 : tie.Need-returns-4
 unfolding signalRules
-returns-5 c =
+returns-4 c =
     rw (
       sym (c .before .before .before .before .before .before .before .before .before .before .wrong-length .ensures) ∙ c .before .before .before .before .before .before .before .before .before .if1 .left,
       agrees (num 2 20 (now (c .before .before .before .before .before .before .before .before .before .before .before .before .args .d)) / 16384) 1 (sym (ap (λ (n : ℕ). n / 16384) (c .before .before .before .before .before .before .before .before .u16-at .ensures)) ∙ c .before .before .before .before .before .before .before .if2 .left),
       agrees (num 2 22 (now (c .before .before .before .before .before .before .before .before .before .before .before .before .args .d))) 100 (sym (c .before .before .before .before .before .before .u16-at2 .ensures) ∙ c .before .before .before .before .before .if3 .left),
-      sym (c .before .before .before .wrong-bits .ensures ∙ ap wrongBits (c .before .before .before .before .u16-at3 .ensures)) ∙ c .before .before .if4 .left,
-      differs (length (now (c .before .before .before .before .before .before .before .before .before .before .before .before .args .d))) (filled (32 + (num 2 28 (now (c .before .before .before .before .before .before .before .before .before .before .before .before .args .d))) / 8)) (λ e. c .if5 .taken (e ∙ sym (c .before .filled-size .ensures ∙ ap (λ (n : ℕ). filled (32 + n / 8)) (c .before .before .before .before .u16-at3 .ensures)))),
+      sym (c .before .before .before .wrong-bits .ensures ∙ ap wrongBits (c .before .before .before .before .u16-at3 .ensures)) ∙ c .if4 .taken,
+    )
+
+returns-5 : tie.Need-returns-5
+unfolding signalRules
+returns-5 c =
+    rw (
+      sym (c .before .before .before .before .before .before .before .before .before .before .before .wrong-length .ensures) ∙ c .before .before .before .before .before .before .before .before .before .before .if1 .left,
+      agrees (num 2 20 (now (c .before .before .before .before .before .before .before .before .before .before .before .before .before .args .d)) / 16384) 1 (sym (ap (λ (n : ℕ). n / 16384) (c .before .before .before .before .before .before .before .before .before .u16-at .ensures)) ∙ c .before .before .before .before .before .before .before .before .if2 .left),
+      agrees (num 2 22 (now (c .before .before .before .before .before .before .before .before .before .before .before .before .before .args .d))) 100 (sym (c .before .before .before .before .before .before .before .u16-at2 .ensures) ∙ c .before .before .before .before .before .before .if3 .left),
+      sym (c .before .before .before .before .wrong-bits .ensures ∙ ap wrongBits (c .before .before .before .before .before .u16-at3 .ensures)) ∙ c .before .if4 .left,
+      sym (c .before .before .no .ensures ∙ ap (λ (n : ℕ). not (eqb (length (now (c .before .before .before .before .before .before .before .before .before .before .before .before .before .args .d))) n)) (c .before .before .before .filled-size .ensures ∙ ap (λ (n : ℕ). filled (32 + n / 8)) (c .before .before .before .before .before .u16-at3 .ensures))) ∙ c .if5 .taken,
     )
 
 sub-inner-refusal : tie.Need-sub-inner-refusal
-sub-inner-refusal c = omega (arith, right-bits (c .before .before .before .before .u16-at3 .result) (sym (c .before .before .before .wrong-bits .ensures) ∙ c .before .before .if4 .left))
+sub-inner-refusal c = omega (arith, right-bits (c .before .before .before .before .before .u16-at3 .result) (sym (c .before .before .before .before .wrong-bits .ensures) ∙ c .before .if4 .left))
 
 cast-inner-refusal : tie.Need-cast-inner-refusal
 cast-inner-refusal c = search needs
 
 inner-refusal-requires : tie.Need-inner-refusal-requires
-inner-refusal-requires c κs = omega (arith, right-bits (c .before .before .before .before .u16-at3 .result) (sym (c .before .before .before .wrong-bits .ensures) ∙ c .before .before .if4 .left), c .if5 .left ∙ c .before .filled-size .ensures)
+inner-refusal-requires c κs = omega (arith, right-bits (c .before .before .before .before .before .u16-at3 .result) (sym (c .before .before .before .before .wrong-bits .ensures) ∙ c .before .if4 .left), eqb-true (length (now (c .before .before .before .before .before .before .before .before .before .before .before .before .before .args .d))) (c .before .before .before .filled-size .result) (not-false (eqb (length (now (c .before .before .before .before .before .before .before .before .before .before .before .before .before .args .d))) (c .before .before .before .filled-size .result)) (sym (c .before .before .no .ensures) ∙ c .if5 .left)) ∙ c .before .before .before .filled-size .ensures)
 
 returns-6 : tie.Need-returns-6
 unfolding signalRules
 returns-6 c =
     rw (
-      sym (c .before .before .before .before .before .before .before .before .before .before .before .wrong-length .ensures) ∙ c .before .before .before .before .before .before .before .before .before .before .if1 .left,
-      agrees (num 2 20 (now (c .before .before .before .before .before .before .before .before .before .before .before .before .before .args .d)) / 16384) 1 (sym (ap (λ (n : ℕ). n / 16384) (c .before .before .before .before .before .before .before .before .before .u16-at .ensures)) ∙ c .before .before .before .before .before .before .before .before .if2 .left),
-      agrees (num 2 22 (now (c .before .before .before .before .before .before .before .before .before .before .before .before .before .args .d))) 100 (sym (c .before .before .before .before .before .before .before .u16-at2 .ensures) ∙ c .before .before .before .before .before .before .if3 .left),
-      sym (c .before .before .before .before .wrong-bits .ensures ∙ ap wrongBits (c .before .before .before .before .before .u16-at3 .ensures)) ∙ c .before .before .before .if4 .left,
-      agrees (length (now (c .before .before .before .before .before .before .before .before .before .before .before .before .before .args .d))) (filled (32 + (num 2 28 (now (c .before .before .before .before .before .before .before .before .before .before .before .before .before .args .d))) / 8)) (c .before .if5 .left ∙ (c .before .before .filled-size .ensures ∙ ap (λ (n : ℕ). filled (32 + n / 8)) (c .before .before .before .before .before .u16-at3 .ensures))),
+      sym (c .before .before .before .before .before .before .before .before .before .before .before .before .wrong-length .ensures) ∙ c .before .before .before .before .before .before .before .before .before .before .before .if1 .left,
+      agrees (num 2 20 (now (c .before .before .before .before .before .before .before .before .before .before .before .before .before .before .args .d)) / 16384) 1 (sym (ap (λ (n : ℕ). n / 16384) (c .before .before .before .before .before .before .before .before .before .before .u16-at .ensures)) ∙ c .before .before .before .before .before .before .before .before .before .if2 .left),
+      agrees (num 2 22 (now (c .before .before .before .before .before .before .before .before .before .before .before .before .before .before .args .d))) 100 (sym (c .before .before .before .before .before .before .before .before .u16-at2 .ensures) ∙ c .before .before .before .before .before .before .before .if3 .left),
+      sym (c .before .before .before .before .before .wrong-bits .ensures ∙ ap wrongBits (c .before .before .before .before .before .before .u16-at3 .ensures)) ∙ c .before .before .if4 .left,
+      sym (c .before .before .before .no .ensures ∙ ap (λ (n : ℕ). not (eqb (length (now (c .before .before .before .before .before .before .before .before .before .before .before .before .before .before .args .d))) n)) (c .before .before .before .before .filled-size .ensures ∙ ap (λ (n : ℕ). filled (32 + n / 8)) (c .before .before .before .before .before .before .u16-at3 .ensures))) ∙ c .before .if5 .left,
     )
     (c .inner-refusal .ensures
-    ∙ ap (λ (n : ℕ). first (networkRules (signalOf (now (c .before .before .before .before .before .before .before .before .before .before .before .before .before .args .d)) .network) ++ bodyRules (signalOf (now (c .before .before .before .before .before .before .before .before .before .before .before .before .before .args .d)) .network .«message_type») (n / 8 - 20))) (c .before .before .before .before .before .u16-at3 .ensures))
+    ∙ ap (λ (n : ℕ). first (networkRules (signalOf (now (c .before .before .before .before .before .before .before .before .before .before .before .before .before .before .args .d)) .network) ++ bodyRules (signalOf (now (c .before .before .before .before .before .before .before .before .before .before .before .before .before .before .args .d)) .network .«message_type») (n / 8 - 20))) (c .before .before .before .before .before .before .u16-at3 .ensures))
 
 pub refusal-spec : {M : Type 1} → statement M
 refusal-spec =
@@ -118,10 +124,11 @@ refusal-spec =
     returns-3
     u16-at-requires-3
     wrong-bits-requires
-    returns-4
     add-filled-size
     cast-filled-size
     filled-size-requires
+    no-requires
+    returns-4
     returns-5
     sub-inner-refusal
     cast-inner-refusal
