@@ -7,3 +7,4 @@ pub mod TakenExactly
 pub mod ByTable
 pub mod RoundTrip
 pub mod WrittenForm
+pub mod Carried
