@@ -43,8 +43,8 @@ trailing-free (suc k) w h =
     let power : 2 ^ suc k ≡ 2 ^ k * 2 = pow-suc 2 k in
     let half : (2 ^ suc k - 1 - w) / 2 ≡ 2 ^ k - 1 - w / 2 = omega arith in
     let rest : trailingZeros k ((2 ^ suc k - 1 - w) / 2) ≡ least (λ i. not (held w (suc i))) k =
-      ap (trailingZeros k) half ∙ trailing-free k (w / 2) (omega arith)
-      ∙ least-same (λ i. not (held (w / 2) i)) (λ i. not (held w (suc i))) k (λ i. ap not (sym (held-suc w i))) in
+    ap (trailingZeros k) half ∙ trailing-free k (w / 2) (omega arith)
+    ∙ least-same (λ i. not (held (w / 2) i)) (λ i. not (held w (suc i))) k (λ i. ap not (sym (held-suc w i))) in
     ⊎-elim
     (λ (e : w % 2 ≡ 0).
     let odd : (2 ^ suc k - 1 - w) % 2 ≡ 1 = omega arith in
@@ -130,6 +130,7 @@ held-built p (suc n) j h = ⊎-elim (λ (e : j ≡ n). last (p n) refl e) (λ (l
     last : (b : Bool) → p n ≡ b → j ≡ n → held (wordOf p n + cond b (2 ^ n) 0) j ≡ p j
     last true e q = held-taken (wordOf p n) n j (built-free p n) ∙ ap (λ (b : Bool). b || held (wordOf p n) j) (eq-eqb n j (sym q)) ∙ sym (ap p q ∙ e)
     last false e q = ap (λ (w : ℕ). held w j) (add-zero (wordOf p n)) ∙ ap (held (wordOf p n)) q ∙ built-free p n ∙ sym (ap p q ∙ e)
+
     earlier : (b : Bool) → j < n → held (wordOf p n) j ≡ p j → held (wordOf p n + cond b (2 ^ n) 0) j ≡ p j
     earlier true l ih = held-taken (wordOf p n) n j (built-free p n) ∙ ap (λ (b : Bool). b || held (wordOf p n) j) (ne-eqb n j (λ q. omega arith)) ∙ ih
     earlier false l ih = ap (λ (w : ℕ). held w j) (add-zero (wordOf p n)) ∙ ih
