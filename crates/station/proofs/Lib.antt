@@ -1,2 +1,3 @@
 -- Laws and theorems of the station that belong to no one function.
-pub mod BodyLaws
+pub mod ReaderLaws
+pub mod PlaceLaws

@@ -3,3 +3,4 @@ pub mod Numbers
 pub mod Units
 pub mod Hearing
 pub mod Clock
+pub mod Runs

@@ -5,7 +5,7 @@ use native.Mathlib.Omega.{arith}
 use Prim.Native.Nat.{ℕ, _+_, _-_}
 use denote.Ref.{now}
 use lib.ListN.{take, drop}
-use Rattle.station.proofs.BodyLaws.{body-fits}
+use Rattle.station.proofs.ReaderLaws.{body-fits}
 use Rattle.pdu.specs.Words.{wordAt}
 use Rattle.pdu.specs.Reading.{bodySize}
 use Rattle.pdu.specs.declared.Reading.{Reading}
