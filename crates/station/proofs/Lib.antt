@@ -1,3 +1,4 @@
 -- Laws and theorems of the station that belong to no one function.
 pub mod ReaderLaws
 pub mod PlaceLaws
+pub mod Table
