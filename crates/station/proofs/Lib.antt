@@ -2,3 +2,4 @@
 pub mod ReaderLaws
 pub mod PlaceLaws
 pub mod Table
+pub mod Changes

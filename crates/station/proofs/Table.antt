@@ -2,12 +2,12 @@
 -- The rows speak of places, keys, nets, IDs, levels and seconds only; the tests of the rules are followed one by one, and each way ends in its row.
 -- The one premise, that a station has sixteen places, holds of every station that a program can hold.
 -- Assumes nothing.
-use Prim.Native.Nat.{ℕ, _+_, _-_, _<_, _≤_}
+use Prim.Native.Nat.{ℕ, _-_, _^_, _<_, _≤_}
 use mathlib.Core.Path.{_≡_, refl, sym, ap, _∙_, subst}
 use mathlib.Core.Bool.{Bool, true, false, cond, not, _&&_, _||_, true≢false, false≢true}
 use mathlib.Core.List.{List, [], _∷_}
 use mathlib.Core.Logic.{_⊎_, inl, inr, _↔_}
-use lib.ListN.{length, getD, set}
+use lib.ListN.{length, getD, set, length-set}
 use lib.Seq.{getD-set-same, getD-set-other}
 use lib.Dec.{eqb, leb, ltb}
 use borrow.Author.Tests.{eqb-true, eqb-false, eq-eqb, ne-eqb, ltb-true, ltb-false, leb-true, leb-false, le-leb, lt-leb, not-true, not-false}
@@ -15,7 +15,7 @@ use native.Mathlib.Omega.{arith}
 use Rattle.wire.specs.First.{Refusal, _given-when_, first}
 use Rattle.wire.proofs.TableLaws.{both-true}
 use Rattle.occupancy.specs.Places.{places, held, freePlace, withPlace, wordOf}
-use Rattle.occupancy.proofs.WordLaws.{held-taken, held-built}
+use Rattle.occupancy.proofs.WordLaws.{held-taken, taken-fits, built-fits, held-built}
 use Rattle.pdu.specs.Reading.{reading}
 use Rattle.pdu.specs.declared.Transmitter.{Transmitter}
 use Rattle.pdu.specs.declared.Signal.{Signal}
@@ -46,8 +46,9 @@ pub record SameOwn (s s′ : Station) : Type 0 where
   pub state : s′ .state ≡ s .state
   pub clock : s′ .clock ≡ s .clock
 
--- Every place but i is held or free as it was, and what stands in it is as it was.
+-- There are as many places as before, and every place but i is held or free as it was, and what stands in it is as it was.
 pub record SameElse (i : ℕ) (s s′ : Station) : Type 0 where
+  pub size : length (s′ .units) ≡ length (s .units)
   pub word : (j : ℕ) → (j ≡ i → ⊥) → held (s′ .used) j ≡ held (s .used) j
   pub entry : (j : ℕ) → (j ≡ i → ⊥) → unitAt s′ j ≡ unitAt s j
 
@@ -56,6 +57,7 @@ pub record Entered (s : Station) (i : ℕ) (t : Transmitter) (s′ : Station) : 
   pub own : SameOwn s s′
   pub others : SameElse i s s′
   pub taken : held (s′ .used) i ≡ true
+  pub word-fits : s .used < 2 ^ 16 → s′ .used < 2 ^ 16
   pub key : unitAt s′ i .key ≡ keyOf (t .header)
   pub level : unitAt s′ i .level ≡ t .sync .level
   pub state : unitAt s′ i .state ≡ t .sync .state
@@ -110,6 +112,7 @@ pub record Ticked (s : Station) (t : ℕ) (s′ : Station) : Type 0 where
   pub state : s′ .state ≡ s .state
   pub clock : s′ .clock ≡ t
   pub entries : s′ .units ≡ s .units
+  pub word-fits : s′ .used < 2 ^ 16
   pub stays : (i : ℕ) → i < 16 → (held (s′ .used) i ≡ true) ↔ ((held (s .used) i ≡ true) × (t - unitAt s i .last < absence))
 
 -- A Signal that passes 31, 32 and 33: its sender stands in place i, its net is the station's, and the IDs are the same or one is zero.
@@ -187,7 +190,7 @@ module _ (s : Station) (i : ℕ) (u : Unit) where
   same-own = record { level = refl; net = refl; id = refl; state = refl; clock = refl }
 
   same-else : SameElse i s (withUnit s i u)
-  same-else = record { word = λ j _. refl; entry = λ j n. getD-set-other (s .units) i j u _ n }
+  same-else = record { size = length-set (s .units) i u; word = λ j _. refl; entry = λ j n. getD-set-other (s .units) i j u _ n }
 
 entered-row : (s : Station) (i : ℕ) (t : Transmitter) → length (s .units) ≡ 16 → LowestFree s i → Entered s i t (withNew s i (newUnit (s .clock) t))
 entered-row s i t sized free =
@@ -197,10 +200,12 @@ entered-row s i t sized free =
       own = record { level = refl; net = refl; id = refl; state = refl; clock = refl };
       others =
         record {
+          size = length-set (s .units) i u;
           word = λ j n. held-taken (s .used) i j (free .free) ∙ ap (λ (b : Bool). b || held (s .used) j) (ne-eqb i j (λ e. n (sym e)));
           entry = λ j n. getD-set-other (s .units) i j u _ n;
         };
       taken = held-taken (s .used) i i (free .free) ∙ ap (λ (b : Bool). b || held (s .used) i) (eq-eqb i i refl);
+      word-fits = λ h. taken-fits 16 (s .used) i h (free .place) (free .free);
       key = ap (λ (v : Unit). v .key) here;
       level = ap (λ (v : Unit). v .level) here;
       state = ap (λ (v : Unit). v .state) here;
@@ -297,6 +302,7 @@ ticked-row s t = record {
       state = refl;
       clock = refl;
       entries = refl;
+      word-fits = built-fits (stays s t) 16;
       stays = λ i l. rw (held-built (stays s t) 16 i l) (stays-held (held (s .used) i) t (unitAt s i .last));
     }
 
