@@ -107,3 +107,47 @@ outsiders-change-nothing s sized d g n read out = go refl (only-by-rules s sized
     go same (passed g′ k i e x y z u) = refl
     go same (back x) = refl
     go same (ticked x y) = absurd (let z : _≡_ {A = ℕ} 0 1 = cc in omega arith)
+
+-- A Transmitter never changes the station's own level, net, ID, state or clock, and never lets a unit in: whoever is In after it was In before it.
+pub record AdmitsNoOne (s s′ : Station) : Type 0 where
+  pub own : SameOwn s s′
+  pub inside : (j : ℕ) → held (s′ .used) j ≡ true → unitAt s′ j .inside ≡ true → (held (s .used) j ≡ true) × (unitAt s j .inside ≡ true)
+
+unchanged : (s : Station) → AdmitsNoOne s s
+unchanged s = record { own = record { level = refl; net = refl; id = refl; state = refl; clock = refl }; inside = λ j h w. (h, w) }
+
+pub transmitters-admit-no-one : (s : Station) → length (s .units) ≡ 16 → (d : List ℕ) (t : Transmitter) → reading d ≡ aTransmitter t
+    → AdmitsNoOne s (called s (datagram d) .station)
+transmitters-admit-no-one s sized d t read = go refl (only-by-rules s sized (datagram d))
+  where
+    go : {c : Call} {k : ℕ} {s′ : Station} → c ≡ datagram d → Table s c k s′ → AdmitsNoOne s s′
+    go same (unread k e) = unchanged s
+    go same (no-room t′ e x y) = unchanged s
+    go {s′ = s′} same (entered t′ i e x y z) = record {
+      own = z .own;
+      inside = λ j h w.
+          ⊎-elim
+          (λ (q : j ≡ i). absurd (true≢false (sym (subst (λ (k : ℕ). unitAt s′ k .inside ≡ true) q w) ∙ z .outside)))
+          (λ q. (sym (z .others .word j q) ∙ h, sym (ap (λ u. u .inside) (z .others .entry j q)) ∙ w))
+          (same-or-not j i);
+    }
+    go {s′ = s′} same (again t′ i e x y) = record {
+      own = y .own;
+      inside = λ j h w. (
+        subst (λ (n : ℕ). held n j ≡ true) (y .word) h,
+        ⊎-elim
+            (λ (q : j ≡ i). subst (λ (k : ℕ). unitAt s k .inside ≡ true) (sym q) (y .inside .0 (subst (λ (k : ℕ). unitAt s′ k .inside ≡ true) q w) .0))
+            (λ q. sym (ap (λ u. u .inside) (y .others .entry j q)) ∙ w)
+            (same-or-not j i),
+      );
+    }
+    go same (stranger g k e x) = unchanged s
+    go same (other-net g k i e x y) = unchanged s
+    go same (other-id g k i e x y z) = unchanged s
+    go same (not-fine g k i e x y z) = unchanged s
+    go same (not-in g k i e x y z) = unchanged s
+    go same (joined g k i e x y z u) = absurd (not-both (reading d) (subst (λ (l : List ℕ). reading l ≡ aSignal g k) (cc) e) read)
+    go same (positioned g k i e x y z u) = absurd (not-both (reading d) (subst (λ (l : List ℕ). reading l ≡ aSignal g k) (cc) e) read)
+    go same (passed g k i e x y z u) = unchanged s
+    go same (back x) = unchanged s
+    go same (ticked x y) = absurd (let z : _≡_ {A = ℕ} 0 1 = cc in omega arith)

@@ -3,3 +3,5 @@ pub mod ReaderLaws
 pub mod PlaceLaws
 pub mod Table
 pub mod Changes
+pub mod InNet
+pub mod Sound

@@ -155,6 +155,7 @@ j00-said type (Here format label sublabel) e = go (eqb type 0) (eqb format 0) (e
     more : (b : Bool) → cond b Ppli Other ≡ NetEntry → ⊥
     more true f = let z : _≡_ {A = ℕ} 0 1 = cc in omega arith
     more false f = let z : _≡_ {A = ℕ} 0 1 = cc in omega arith
+
     go : (a b c d : Bool) → eqb type 0 ≡ a → eqb format 0 ≡ b → eqb label 0 ≡ c → eqb sublabel 0 ≡ d
         → cond (a && b) (cond (c && d) NetEntry (cond (eqb label 2) Ppli Other)) Other ≡ NetEntry → IsJ00 type (Here format label sublabel)
     go true true true true x y z u f =
@@ -179,9 +180,9 @@ ppli-said type (Here format label sublabel) e = go (eqb type 0) (eqb format 0) (
 
 pub other-said : (type : ℕ) (w : Word) → messageOf type w ≡ Other → IsOther type w
 other-said type w e = (
-      λ j. let f : NetEntry ≡ Other = sym (says-j00 type w j) ∙ e in let z : _≡_ {A = ℕ} 0 1 = cc in omega arith,
-      λ p. let f : Ppli ≡ Other = sym (says-ppli type w p) ∙ e in let z : _≡_ {A = ℕ} 0 1 = cc in omega arith,
-    )
+  λ j. let f : NetEntry ≡ Other = sym (says-j00 type w j) ∙ e in let z : _≡_ {A = ℕ} 0 1 = cc in omega arith,
+  λ p. let f : Ppli ≡ Other = sym (says-ppli type w p) ∙ e in let z : _≡_ {A = ℕ} 0 1 = cc in omega arith,
+)
 
 -- ---- the station's state
 

@@ -34,6 +34,7 @@ body-fits d g n e = taken (eqb (refusal d) 0) refl e
         let rules = taken-signal d q t in
         let same : n ≡ bodySize d = cc in
         record { size = same; fits = omega (arith, signal-bits d rules, signal-length d rules) }
+
     taken : (b : Bool) → eqb (refusal d) 0 ≡ b → cond b (content d) (Refused (refusal d)) ≡ Signal g n → BodyFits d n
     taken true q f = typed (eqb (num 1 2 d) 25) (eqb-true (refusal d) 0 q) refl f
     taken false q f = absurd (let z : _≡_ {A = ℕ} 0 1 = cc in omega arith)
@@ -56,11 +57,14 @@ refused-small d n e = go (eqb (refusal d) 0) e
     listed : (b : Bool) → upTo 15 (cond b (transmitterRules d) (signalRules d)) ≡ true
     listed true = refl
     listed false = refl
+
     small : refusal d ≤ 15
     small = first-upTo 15 (readingRules d) (listed (eqb (num 1 2 d) 25))
+
     typed : (b : Bool) → cond b (Transmitter (transmitterOf d)) (Signal (signalOf d) (bodySize d)) ≡ Refused n → n ≤ 15
     typed true f = absurd (let z : _≡_ {A = ℕ} 0 1 = cc in omega arith)
     typed false f = absurd (let z : _≡_ {A = ℕ} 0 1 = cc in omega arith)
+
     go : (b : Bool) → cond b (content d) (Refused (refusal d)) ≡ Refused n → n ≤ 15
     go true f = typed (eqb (num 1 2 d) 25) f
     go false f = let same : refusal d ≡ n = cc in subst (λ (k : ℕ). k ≤ 15) same small

@@ -130,36 +130,36 @@ pub data Table (s : Station) : Call → ℕ → Station → Type 0 where
   no-room : {d : List ℕ} (t : Transmitter) → reading d ≡ aTransmitter t → Stranger s (keyOf (t .header)) → Full s → Table s (datagram d) 30 s
   -- a Transmitter with an unknown key: 40, and its entry is made in the lowest free place
   entered : {d : List ℕ} {s′ : Station} (t : Transmitter) (i : ℕ) → reading d ≡ aTransmitter t → Stranger s (keyOf (t .header)) → LowestFree s i → Entered s i t s′
-    → Table s (datagram d) 40 s′
+      → Table s (datagram d) 40 s′
   -- a Transmitter with a known key: 41, and its entry is renewed
   again : {d : List ℕ} {s′ : Station} (t : Transmitter) (i : ℕ) → reading d ≡ aTransmitter t → Sender s (keyOf (t .header)) i → Renewed s i t s′
-    → Table s (datagram d) 41 s′
+      → Table s (datagram d) 41 s′
   -- a Signal with an unknown key: 31, and nothing changes
   stranger : {d : List ℕ} (g : Signal) (n : ℕ) → reading d ≡ aSignal g n → Stranger s (keyOf (g .header)) → Table s (datagram d) 31 s
   -- a Signal on another net: 32, and nothing changes
   other-net : {d : List ℕ} (g : Signal) (n i : ℕ) → reading d ≡ aSignal g n → Sender s (keyOf (g .header)) i → (g .network .net ≡ s .net → ⊥)
-    → Table s (datagram d) 32 s
+      → Table s (datagram d) 32 s
   -- a Signal whose sender's ID differs from the station's, neither being zero: 33, and nothing changes
   other-id : {d : List ℕ} (g : Signal) (n i : ℕ) → reading d ≡ aSignal g n → Sender s (keyOf (g .header)) i → g .network .net ≡ s .net → Clash (s .id) (unitAt s i .id)
-    → Table s (datagram d) 33 s
+      → Table s (datagram d) 33 s
   -- a J0.0 or a PPLI from a sender that is not fine: 34, and nothing changes
   not-fine : {d : List ℕ} (g : Signal) (n i : ℕ) → reading d ≡ aSignal g n → Passed s g i → IsJ00 (g .network .«message_type») (firstWord d) ⊎ IsPpli (g .network .«message_type») (firstWord d)
-    → (unitAt s i .state ≡ 3 → ⊥)
-    → Table s (datagram d) 34 s
+      → (unitAt s i .state ≡ 3 → ⊥)
+      → Table s (datagram d) 34 s
   -- all else from a sender that is not In, or to a station that is not Fine: 35, and nothing changes
   not-in : {d : List ℕ} (g : Signal) (n i : ℕ) → reading d ≡ aSignal g n → Passed s g i → IsOther (g .network .«message_type») (firstWord d) → (unitAt s i .inside ≡ true → s .state ≡ Fine → ⊥)
-    → Table s (datagram d) 35 s
+      → Table s (datagram d) 35 s
   -- a J0.0 from a sender that is fine: 42, and the station joins
   joined : {d : List ℕ} {s′ : Station} (g : Signal) (n i : ℕ) → reading d ≡ aSignal g n → Passed s g i → IsJ00 (g .network .«message_type») (firstWord d) → unitAt s i .state ≡ 3
-    → Joined s (unitAt s i) s′
-    → Table s (datagram d) 42 s′
+      → Joined s (unitAt s i) s′
+      → Table s (datagram d) 42 s′
   -- a PPLI from a sender that is fine: 43, and the sender is In
   positioned : {d : List ℕ} {s′ : Station} (g : Signal) (n i : ℕ) → reading d ≡ aSignal g n → Passed s g i → IsPpli (g .network .«message_type») (firstWord d) → unitAt s i .state ≡ 3
-    → Positioned s i s′
-    → Table s (datagram d) 43 s′
+      → Positioned s i s′
+      → Table s (datagram d) 43 s′
   -- all else from a sender that is In, to a station that is Fine: 44, and nothing changes
   passed : {d : List ℕ} (g : Signal) (n i : ℕ) → reading d ≡ aSignal g n → Passed s g i → IsOther (g .network .«message_type») (firstWord d) → unitAt s i .inside ≡ true → s .state ≡ Fine
-    → Table s (datagram d) 44 s
+      → Table s (datagram d) 44 s
   -- a clock that would go back: 36, and nothing changes
   back : {t : ℕ} → t < s .clock → Table s (time t) 36 s
   -- a clock: 46, and the silent units are removed
@@ -199,11 +199,11 @@ entered-row s i t sized free =
     record {
       own = record { level = refl; net = refl; id = refl; state = refl; clock = refl };
       others =
-        record {
-          size = length-set (s .units) i u;
-          word = λ j n. held-taken (s .used) i j (free .free) ∙ ap (λ (b : Bool). b || held (s .used) j) (ne-eqb i j (λ e. n (sym e)));
-          entry = λ j n. getD-set-other (s .units) i j u _ n;
-        };
+          record {
+            size = length-set (s .units) i u;
+            word = λ j n. held-taken (s .used) i j (free .free) ∙ ap (λ (b : Bool). b || held (s .used) j) (ne-eqb i j (λ e. n (sym e)));
+            entry = λ j n. getD-set-other (s .units) i j u _ n;
+          };
       taken = held-taken (s .used) i i (free .free) ∙ ap (λ (b : Bool). b || held (s .used) i) (eq-eqb i i refl);
       word-fits = λ h. taken-fits 16 (s .used) i h (free .place) (free .free);
       key = ap (λ (v : Unit). v .key) here;
@@ -216,12 +216,12 @@ entered-row s i t sized free =
 
 kept-inside : (was : Bool) (state id old : ℕ) → ((was && (eqb state 3 && eqb id old)) ≡ true) ↔ ((was ≡ true) × (state ≡ 3) × (id ≡ old))
 kept-inside was state id old = (
-      λ e.
+  λ e.
       let in-and = both-true was (eqb state 3 && eqb id old) e in
       let same = both-true (eqb state 3) (eqb id old) (in-and .1) in
       (in-and .0, eqb-true state 3 (same .0), eqb-true id old (same .1)),
-      λ w. rw (w .0, eq-eqb state 3 (w .1), eq-eqb id old (w .2)),
-    )
+  λ w. rw (w .0, eq-eqb state 3 (w .1), eq-eqb id old (w .2)),
+)
 
 renewed-row : (s : Station) (i : ℕ) (t : Transmitter) → length (s .units) ≡ 16 → i < 16 → Renewed s i t (withUnit s i (renewed (unitAt s i) t))
 renewed-row s i t sized l =
@@ -272,39 +272,39 @@ state-kept Waiting h = absurd (h refl)
 state-kept Coarse h = refl
 state-kept Fine h = refl
 
-joined-row : (s : Station) (u : Unit) → Joined s u (afterJ00 s u)
+pub joined-row : (s : Station) (u : Unit) → Joined s u (afterJ00 s u)
 unfolding afterJ00
 joined-row s u = record {
-      level = refl;
-      net = refl;
-      clock = refl;
-      word = refl;
-      entries = refl;
-      id-taken = λ e. rw (eq-eqb (s .id) 0 e);
-      id-kept = λ e. rw (ne-eqb (s .id) 0 e);
-      coarse = λ o v w. ap (λ (b : Bool). stateAfter b (s .state)) (both-four (s .level) (u .level) o v) ∙ ap (stateAfter true) w;
-      stays = λ o v w. ap (λ (b : Bool). stateAfter b (s .state)) (both-four (s .level) (u .level) o v) ∙ state-kept (s .state) w;
-      fine = λ w. ap (λ (b : Bool). stateAfter b (s .state)) (not-both-four (s .level) (u .level) w);
-    }
+  level = refl;
+  net = refl;
+  clock = refl;
+  word = refl;
+  entries = refl;
+  id-taken = λ e. rw (eq-eqb (s .id) 0 e);
+  id-kept = λ e. rw (ne-eqb (s .id) 0 e);
+  coarse = λ o v w. ap (λ (b : Bool). stateAfter b (s .state)) (both-four (s .level) (u .level) o v) ∙ ap (stateAfter true) w;
+  stays = λ o v w. ap (λ (b : Bool). stateAfter b (s .state)) (both-four (s .level) (u .level) o v) ∙ state-kept (s .state) w;
+  fine = λ w. ap (λ (b : Bool). stateAfter b (s .state)) (not-both-four (s .level) (u .level) w);
+}
 
 stays-held : (was : Bool) (t last : ℕ) → ((was && not (silent t last)) ≡ true) ↔ ((was ≡ true) × (t - last < absence))
 stays-held was t last = (
-      λ e. let w = both-true was (not (silent t last)) e in (w .0, leb-false absence (t - last) (not-true (silent t last) (w .1))),
-      λ w. rw (w .0, lt-leb absence (t - last) (w .1)),
-    )
+  λ e. let w = both-true was (not (silent t last)) e in (w .0, leb-false absence (t - last) (not-true (silent t last) (w .1))),
+  λ w. rw (w .0, lt-leb absence (t - last) (w .1)),
+)
 
 ticked-row : (s : Station) (t : ℕ) → Ticked s t (atTime s t)
 unfolding atTime
 ticked-row s t = record {
-      level = refl;
-      net = refl;
-      id = refl;
-      state = refl;
-      clock = refl;
-      entries = refl;
-      word-fits = built-fits (stays s t) 16;
-      stays = λ i l. rw (held-built (stays s t) 16 i l) (stays-held (held (s .used) i) t (unitAt s i .last));
-    }
+  level = refl;
+  net = refl;
+  id = refl;
+  state = refl;
+  clock = refl;
+  entries = refl;
+  word-fits = built-fits (stays s t) 16;
+  stays = λ i l. rw (held-built (stays s t) 16 i l) (stays-held (held (s .used) i) t (unitAt s i .last));
+}
 
 -- ---- every outcome has its row
 
