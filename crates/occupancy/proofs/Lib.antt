@@ -1,0 +1,3 @@
+-- Laws of the word of places that belong to no one function.
+pub mod LeastLaws
+pub mod WordLaws

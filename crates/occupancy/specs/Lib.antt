@@ -1,0 +1,2 @@
+-- What the word of places means.
+pub mod Places

@@ -1,0 +1,38 @@
+-- What a clock does to a station: 36, or 46 and the silent entries removed.
+use Prim.Native.Nat.{ℕ, _-_}
+use mathlib.Core.Bool.{Bool, not, _&&_}
+use mathlib.Core.List.{[], _∷_}
+use lib.Dec.{leb, ltb}
+use Rattle.wire.specs.First.{_given-when_}
+use Rattle.occupancy.specs.Places.{places, held, wordOf}
+use Rattle.station.specs.Numbers.{absence}
+use Rattle.station.specs.Units.{unitAt}
+use Rattle.station.specs.Hearing.{answering, unless}
+use Rattle.station.specs.declared.Unit.{Unit}
+use Rattle.station.specs.declared.Station.{Station}
+use Rattle.station.specs.declared.Heard.{Heard}
+
+-- whether a unit last heard at this second is absent at t: "t − last of 60 or more"
+abbrev pub silent : ℕ → ℕ → Bool
+silent t last = leb absence (t - last)
+
+-- whether place i is held and stays held at t
+abbrev pub stays : Station → ℕ → ℕ → Bool
+stays s t i = held (s .used) i && not (silent t (unitAt s i .last))
+
+-- "now = t, and every entry with t − last of 60 or more is removed": the places are freed, and what stands in them is left
+unfoldable pub atTime : Station → ℕ → Station
+atTime s t =
+    record {
+      level = s .level;
+      net = s .net;
+      id = s .id;
+      state = s .state;
+      clock = t;
+      used = wordOf (stays s t) places;
+      units = s .units;
+    }
+
+-- "Clock t: 36 if t is less than now. Else .. answer 46"
+unfoldable pub clocked : Station → ℕ → Heard
+clocked s t = unless s ((36 given-when ltb t (s .clock)) ∷ []) (answering 46 (atTime s t))

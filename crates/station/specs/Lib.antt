@@ -1,0 +1,6 @@
+-- What a station is and does (01, "The station").
+pub mod Numbers
+pub mod Units
+pub mod Hearing
+pub mod Clock
+pub mod Runs

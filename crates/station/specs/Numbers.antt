@@ -1,0 +1,25 @@
+-- The numbers of document 01 that the station's rules use, each named once.
+use Prim.Native.Nat.{ℕ}
+
+-- 37: the highest level and net of a station
+abbrev pub lastLevel : ℕ
+lastLevel = 4
+
+abbrev pub lastNet : ℕ
+lastNet = 127
+
+-- the synchronization state of a sender that is fine (01, byte 107)
+abbrev pub fine : ℕ
+fine = 3
+
+-- the level at which a J0.0 gives Coarse only, where both sides have it
+abbrev pub coarseLevel : ℕ
+coarseLevel = 4
+
+-- the label of a PPLI
+abbrev pub ppliLabel : ℕ
+ppliLabel = 2
+
+-- the seconds without a PPLI after which an entry is removed
+abbrev pub absence : ℕ
+absence = 60

@@ -1,0 +1,225 @@
+// The net-entry state of one station (document 01, "The station"): what each datagram and each clock makes of it.
+// Every public call takes every station and every argument, and is promised as a whole answer and a whole station after it.
+ghost use mathlib.Core.Path.{_≡_};
+ghost use Rattle.pdu.specs.Reading.{reading};
+ghost use Rattle.station.specs.Units.{keyOf, fresh, made, unitsHeld, seenOf, placeAt};
+ghost use Rattle.station.specs.Hearing.{heard};
+ghost use Rattle.station.specs.Clock.{clocked};
+use pdu::Header;
+use pdu::Reading;
+
+mod hear_signal;
+mod hear_transmitter;
+mod pass_time;
+mod places;
+
+const LAST_LEVEL: u8 = 4;
+
+const LAST_NET: u8 = 127;
+
+// Where a Signal's body starts.
+const BODY_START: usize = 52;
+
+// The station's own state in the net.
+pub enum State {
+    Waiting,
+    Coarse,
+    Fine,
+}
+
+// An entry: what the station knows of a unit.
+pub struct Unit {
+    pub key: u64,
+    pub level: u8,
+    pub state: u8,
+    pub id: u32,
+    pub inside: bool,
+    pub last: u64,
+}
+
+// A station; `used` is the word of held places, and what a free place holds means nothing.
+pub struct Station {
+    level: u8,
+    net: u8,
+    id: u32,
+    state: State,
+    clock: u64,
+    used: u16,
+    units: [Unit; 16],
+}
+
+// What the maker answers: 0, or 37 with a station of level 0, net 0.
+pub struct Made {
+    pub station: Station,
+    pub answer: u8,
+}
+
+// What a call on a station answers, by document 01's number, and the station after it.
+pub struct Heard {
+    pub station: Station,
+    pub answer: u8,
+}
+
+// What a Signal says to a station: J0.0, a PPLI, or all else.
+pub enum Message {
+    NetEntry,
+    Ppli,
+    Other,
+}
+
+// What a station knows of a key.
+pub enum Seen {
+    Unknown,
+    Known { inside: bool, last: u64 },
+}
+
+// What a place holds.
+pub enum Place {
+    Free,
+    Held(Unit),
+}
+
+// A station before its first call.
+fn fresh_station(level: u8, net: u8) -> Station
+    ensures { λ r. ⌜ r ≡ fresh level net ⌝ }
+{
+    let blank = Unit {
+        key: 0,
+        level: 0,
+        state: 0,
+        id: 0,
+        inside: false,
+        last: 0,
+    };
+    let units = [blank; 16];
+    Station {
+        level,
+        net,
+        id: 0,
+        state: State::Waiting,
+        clock: 0,
+        used: 0,
+        units,
+    }
+}
+
+// Makes a station of this level and net; 37 where the level is above 4 or the net above 127.
+pub fn new(level: u8, net: u8) -> Made
+    ensures { λ r. ⌜ r ≡ made level net ⌝ }
+{
+    if wire::either(LAST_LEVEL < level, LAST_NET < net) {
+        return Made {
+            station: fresh_station(0, 0),
+            answer: 37,
+        };
+    }
+    Made {
+        station: fresh_station(level, net),
+        answer: 0,
+    }
+}
+
+// The station's call on a datagram: the reader's number, 30 to 35, or 40 to 44.
+pub fn hear(station: Station, datagram: &[u8]) -> Heard
+    ensures { λ r. ⌜ r ≡ heard station (now (datagram .entry)) ⌝ }
+{
+    let reading = pdu::read(datagram);
+    match reading {
+        Reading::Refused(n) => Heard { station, answer: n },
+        Reading::Transmitter(t) => hear_transmitter::transmitter(station, t),
+        Reading::Signal(g, size) => {
+            let end = BODY_START + size as usize;
+            let word = pdu::words::at(&datagram[BODY_START..end], 0);
+            hear_signal::signal(station, g, word)
+        }
+    }
+}
+
+// The station's call on a clock: 36 where it would go back, else 46 and the silent units removed.
+pub fn clock(station: Station, t: u64) -> Heard
+    ensures { λ r. ⌜ r ≡ clocked station t ⌝ }
+{
+    if t < station.clock {
+        return Heard {
+            station,
+            answer: 36,
+        };
+    }
+    Heard {
+        station: pass_time::at_time(station, t),
+        answer: 46,
+    }
+}
+
+// The key of a PDU's unit: site, application, entity and radio as one number.
+pub fn key_of(h: Header) -> u64
+    ensures { λ r. ⌜ r ≡ keyOf h ⌝ }
+{
+    let pair = h.site as u64 * 65536 + h.application as u64;
+    (pair * 65536 + h.entity as u64) * 65536 + h.radio as u64
+}
+
+pub fn level_of(station: Station) -> u8
+    ensures { λ r. ⌜ r ≡ station .level ⌝ }
+{
+    station.level
+}
+
+pub fn net_of(station: Station) -> u8
+    ensures { λ r. ⌜ r ≡ station .net ⌝ }
+{
+    station.net
+}
+
+pub fn id_of(station: Station) -> u32
+    ensures { λ r. ⌜ r ≡ station .id ⌝ }
+{
+    station.id
+}
+
+pub fn state_of(station: Station) -> State
+    ensures { λ r. ⌜ r ≡ station .state ⌝ }
+{
+    station.state
+}
+
+pub fn clock_of(station: Station) -> u64
+    ensures { λ r. ⌜ r ≡ station .clock ⌝ }
+{
+    station.clock
+}
+
+// How many units the station holds.
+pub fn units_held(station: Station) -> u32
+    ensures { λ r. ⌜ r ≡ unitsHeld station ⌝ }
+{
+    occupancy::held_count(station.used)
+}
+
+// What the station knows of a key.
+pub fn look(station: Station, key: u64) -> Seen
+    ensures { λ r. ⌜ r ≡ seenOf station key ⌝ }
+{
+    let i = places::place_of(station, key);
+    if i < occupancy::PLACES {
+        let u = station.units[i];
+        return Seen::Known {
+            inside: u.inside,
+            last: u.last,
+        };
+    }
+    Seen::Unknown
+}
+
+// What place i holds; there are places 0 to 15.
+pub fn at(station: Station, i: usize) -> Place
+    ensures { λ r. ⌜ r ≡ placeAt station i ⌝ }
+{
+    if i < occupancy::PLACES {
+        if occupancy::is_held(station.used, i) {
+            let u = station.units[i];
+            return Place::Held(u);
+        }
+    }
+    Place::Free
+}

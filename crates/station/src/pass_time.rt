@@ -1,0 +1,46 @@
+// Passing time: which units stay.
+ghost use mathlib.Core.Path.{_≡_};
+ghost use Rattle.occupancy.specs.Places.{wordOf};
+ghost use Rattle.station.specs.Clock.{silent, stays, atTime};
+use crate::Station;
+
+const ABSENCE: u64 = 60;
+
+// Whether a unit last heard at this second is absent at t.
+fn is_silent(t: u64, last: u64) -> bool
+    ensures { λ r. ⌜ r ≡ silent t last ⌝ }
+{
+    if t < last {
+        return false;
+    }
+    ABSENCE <= t - last
+}
+
+// The word of the places that stay held at t.
+fn survivors(s: Station, t: u64) -> u16
+    ensures { λ r. ⌜ r ≡ wordOf (stays s t) 16 ⌝ }
+{
+    let mut word: u16 = 0;
+    let mut i = 0;
+    while i < occupancy::PLACES {
+        let u = s.units[i];
+        if wire::both(
+            occupancy::is_held(s.used, i),
+            wire::no(is_silent(t, u.last)),
+        ) {
+            word = occupancy::with_place(word, i);
+        }
+        i += 1;
+    }
+    word
+}
+
+// The station at t.
+pub(crate) fn at_time(mut s: Station, t: u64) -> Station
+    ensures { λ r. ⌜ r ≡ atTime s t ⌝ }
+{
+    let used = survivors(s, t);
+    s.used = used;
+    s.clock = t;
+    s
+}
