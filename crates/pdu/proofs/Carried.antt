@@ -92,9 +92,10 @@ body-there d s n e =
 -- a type 0 body that breaks no rule
 whole : (n : ℕ) → first (bodyRules 0 n) ≡ 0 → (n ≡ Numbers.bodyHeader + Numbers.wordBytes * wordsIn n) × (wordsIn n ≤ Numbers.mostWords)
 unfolding bodyRules
-whole n r =
-    ( eqb-true n _ (not-false (wholeWords n) (unbroken 0 (bodyRules 0 n) refl r))
-    , ltb-false Numbers.mostWords (wordsIn n) (unbroken 1 (bodyRules 0 n) refl r) )
+whole n r = (
+  eqb-true n _ (not-false (wholeWords n) (unbroken 0 (bodyRules 0 n) refl r)),
+  ltb-false Numbers.mostWords (wordsIn n) (unbroken 1 (bodyRules 0 n) refl r),
+)
 
 -- a type 0 body is a header and whole words, twelve at most
 pub taken-words : (d : List ℕ) (s : Signal) (n : ℕ) → reading d ≡ Reading.Signal s n → s .network .«message_type» ≡ 0 → (n ≡ Numbers.bodyHeader + Numbers.wordBytes * wordsIn n) × (wordsIn n ≤ Numbers.mostWords)
@@ -102,6 +103,6 @@ taken-words d s n e z =
     let same = reads-as d (Reading.Signal s n) .0 e in
     let network = signalOf d .network in
     let rules : first (bodyRules (s .network .«message_type») n) ≡ 0 =
-        subst₂ (λ (x : Signal) (m : ℕ). first (bodyRules (x .network .«message_type») m) ≡ 0) (sym (same .2)) (sym (same .3))
-        (inner-body network (network .«message_type») (bodySize d) (as-signal d s n e .rules)) in
+    subst₂ (λ (x : Signal) (m : ℕ). first (bodyRules (x .network .«message_type») m) ≡ 0) (sym (same .2)) (sym (same .3))
+    (inner-body network (network .«message_type») (bodySize d) (as-signal d s n e .rules)) in
     whole n (subst (λ (k : ℕ). first (bodyRules k n) ≡ 0) z rules)
