@@ -1,0 +1,2 @@
+-- Laws and theorems of the trunk that belong to no one function.
+pub mod RecordLaws
