@@ -1,2 +1,4 @@
 -- Laws and theorems of the trunk that belong to no one function.
 pub mod RecordLaws
+pub mod RuleLaws
+pub mod CallLaws
