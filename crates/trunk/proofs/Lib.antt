@@ -2,3 +2,6 @@
 pub mod RecordLaws
 pub mod RuleLaws
 pub mod CallLaws
+pub mod RowLaws
+pub mod LogLaws
+pub mod Invariant

@@ -59,7 +59,7 @@ store-says : (store : List ℕ) → (wrongStore store ≡ false) ↔ (length sto
 store-says store = negated _ (equal _ _)
 
 -- 23, of a datagram that is taken
-type-says : (d : List ℕ) → refusal d ≡ 0 → (eqb (kindOf (reading d)) noKind ≡ false) ↔ TypeRule d
+pub type-says : (d : List ℕ) → refusal d ≡ 0 → (eqb (kindOf (reading d)) noKind ≡ false) ↔ TypeRule d
 type-says d z = Iff·trans (differs _ _) (typed, carried)
   where
     by-type : (s : SignalFields) (n : ℕ) → reading d ≡ Signal s n → (b : Bool) → eqb (s .network .«message_type») 0 ≡ b → cond b (wordsIn n) noKind ≢ noKind → b ≡ true
