@@ -9,7 +9,7 @@ use mathlib.Core.Bool.{Bool, true, false, cond}
 use mathlib.Core.List.{List, [], _∷_, _++_}
 use lib.ListN.{length, drop}
 use lib.Dec.{eqb, ltb}
-use borrow.Author.Tests.{eqb-true, eqb-false, ltb-true, ltb-false}
+use borrow.Author.Tests.{eq-eqb, eqb-true, eqb-false, ltb-true, ltb-false}
 use native.Mathlib.Omega.{arith}
 use Rattle.wire.specs.Bytes.{Bytes, splice}
 use Rattle.wire.specs.First.{Refusal, first}
@@ -142,3 +142,17 @@ arrival-outcome far r reply out b = by (eqb (first (arrivalRules r (length reply
     by : (b : Bool) → eqb (first (arrivalRules r (length reply) (length out))) 0 ≡ b → Outcome
     by true e = placed-by (eqb (numberIn r) (far .count)) (ltb (numberIn r) (far .count)) refl refl e
     by false e = rw e (arrival-refused _ (v .some _ .0 (refl, eqb-false _ _ e)))
+
+-- ---- calls that break no rule
+
+pub sends : (near : Near) (store : List ℕ) (i : ℕ) (out : List ℕ) → first (sendRules near store i (length out)) ≡ 0 → (sent near store i (length out) ≡ Size (recordSize (rowKind store i))) × (sentOut near store i out ≡ rowRecord store i ++ drop (recordSize (rowKind store i)) out)
+unfolding sent sentOut
+sends near store i out e = (rw e, rw e)
+
+pub acknowledges : (near : Near) (r : List ℕ) → first (replyRules near r) ≡ 0 → replied near r .near .acknowledged ≡ acknowledgedAfter (near .acknowledged) (numberIn r)
+unfolding replied
+acknowledges near r e = rw e
+
+pub delivers : (far : Far) (r reply out : List ℕ) → first (arrivalRules r (length reply) (length out)) ≡ 0 → numberIn r ≡ far .count → (arrived far r (length reply) (length out) ≡ delivered far r) × (replyAfter far r reply (length out) ≡ replyOf (far .count + 1) ++ drop headSize reply)
+unfolding arrived replyAfter
+delivers far r reply out e same = (rw (e, eq-eqb _ _ same), rw (e, eq-eqb _ _ same))

@@ -7,7 +7,7 @@ use mathlib.Core.Logic.{_≢_, _⊎_, inl, inr}
 use mathlib.Core.Bool.{Bool, true, false, cond}
 use mathlib.Core.List.{List, [], _∷_, _++_, List·Memᴰ, List·Memᴰ·append-cases, List·Memᴰ·eq-of-singleton}
 use lib.ListN.{length, getD, take, drop, length-append, List·getD-append}
-use lib.Seq.{take-at, take-suc, take-append-le, getD-append-seam}
+use lib.Seq.{length-sets, take-at, take-suc, take-append-le, getD-append-seam}
 use lib.Dec.{ltb}
 use borrow.Author.Tests.{ltb-true, ltb-false, eqb-false}
 use native.Mathlib.Nat.{max-eq-left, max-eq-right}
@@ -18,18 +18,18 @@ use Rattle.pdu.specs.Plain.{Met}
 use Rattle.pdu.specs.Reading.{reading}
 use Rattle.pdu.specs.Writing.{writtenForm}
 use Rattle.pdu.specs.declared.Reading.{Reading}
-use Rattle.station.specs.Runs.{datagram, time, called, after, answers}
+use Rattle.station.specs.Runs.{Call as StationCall, datagram, time, called, after, answers}
 use Rattle.station.specs.Hearing.{heard}
 use Rattle.station.specs.Clock.{clocked}
 use Rattle.station.specs.declared.Station.{Station}
 use Rattle.trunk.specs.Kinds.{headSize, recordSize, replyKind, noKind, kindOf}
 use Rattle.trunk.specs.Record.{recordOf, replyOf, kindIn, numberIn, carriedIn, lastNumber}
-use Rattle.trunk.specs.Near.{rows, rowSize, rowStart, rowKind, rowRecord, offerRecord, acknowledgedAfter}
+use Rattle.trunk.specs.Near.{rows, rowSize, storeSize, rowStart, rowKind, rowRecord, offerRecord, acknowledgedAfter}
 use Rattle.trunk.specs.Far.{delivered}
 use Rattle.trunk.specs.Plain.{plainOffer, plainSend, plainReply, plainArrival}
 use Rattle.trunk.specs.declared.Near.{Near}
 use Rattle.trunk.specs.declared.Far.{Far}
-use Rattle.trunk.proofs.RecordLaws.{Carried, carried-kind, carried-form, carried-in, record-bytes, recordFor, pdu-kind, pdu-number, pdu-length, SoundReply, reply-sound, length-reply}
+use Rattle.trunk.proofs.RecordLaws.{Carried, carried-kind, carried-form, carried-in, record-bytes, recordFor, pdu-kind, pdu-number, pdu-length, SoundReply, reply-sound, length-reply, kind-in}
 use Rattle.trunk.proofs.RuleLaws.{type-says}
 use Rattle.trunk.proofs.RowLaws.{RowHolds, row-written, row-kept, rows-differ, row-kind}
 use Rattle.trunk.proofs.LogLaws.{Seen, accepting, writing, confirming, delivering, timing, after-more, answers-more}
@@ -55,6 +55,8 @@ pub record Holds (station : Station) (near : Near) (store : List ℕ) (far : Far
   pub few : length (v .pdus) ≤ lastNumber
   -- what was accepted is carried
   pub carried : (i : ℕ) → i < length (v .pdus) → Carried (getD (v .pdus) i [])
+  -- nothing is accepted without a whole store
+  pub whole : 0 < length (v .pdus) → length store ≡ storeSize
   -- the row of each number that is held starts with its record
   pub stored : (i : ℕ) → v .confirmed ≤ i → i < length (v .pdus) → RowHolds store i (recordIn (v .pdus) i)
   -- what was written
@@ -104,7 +106,7 @@ known-also pdus rs k r old new x m =
 
 module _ (station : Station) (near : Near) (store : List ℕ) (far : Far) (v : Seen) (h : Holds station near store far v) where
 
-  small : (i : ℕ) → i < length (v .pdus) → i < lastNumber
+  pub small : (i : ℕ) → i < length (v .pdus) → i < lastNumber
   small i l = omega (arith, h .few)
 
   -- the length of an accepted PDU's record
@@ -113,6 +115,26 @@ module _ (station : Station) (near : Near) (store : List ℕ) (far : Far) (v : S
 
   record-fits : (i : ℕ) → i < length (v .pdus) → length (recordIn (v .pdus) i) ≤ rowSize
   record-fits i l = rw (record-length i l) (carried-kind (getD (v .pdus) i []) (h .carried i l .kind) .kind .fits-row)
+
+  -- one more record written
+  pub writes : (r : List ℕ) → Known (v .pdus) (length (v .out)) r → Holds station near store far (writing v r)
+  writes r new =
+      record {
+        near-accepted = h .near-accepted;
+        near-acknowledged = h .near-acknowledged;
+        far-count = h .far-count;
+        acknowledged-put-out = h .acknowledged-put-out;
+        put-out-accepted = h .put-out-accepted;
+        window = h .window;
+        few = h .few;
+        carried = h .carried;
+        whole = h .whole;
+        stored = h .stored;
+        known = known-also (v .pdus) (v .records) (length (v .out)) r (h .known) new;
+        in-order = h .in-order;
+        station-stands = h .station-stands;
+        station-answered = h .station-answered;
+      }
 
   -- ---- an offer
 
@@ -167,9 +189,163 @@ module _ (station : Station) (near : Near) (store : List ℕ) (far : Far) (v : S
           window = omega (arith, one-more, h .near-accepted, h .near-acknowledged, m .1 .1 .1 .1 .0);
           few = omega (arith, one-more, room);
           carried = offer-carried;
+          whole = λ l. length-sets store (rowStart (near .accepted)) (offerRecord near d) ∙ m .0;
           stored = λ i held l. offer-stored i l held;
           known = λ r w. known-more (v .pdus) (length (v .out)) (writtenForm d) r (h .known r w);
           in-order = h .in-order ∙ sym (take-append-le (length (v .out)) (v .pdus) (writtenForm d ∷ []) (h .put-out-accepted));
           station-stands = h .station-stands;
           station-answered = h .station-answered;
         }
+
+  -- ---- a send
+
+  module _ (i room : ℕ) (m : Met (plainSend near store i room)) where
+    pub send-held : i < length (v .pdus)
+    send-held = omega (arith, m .1 .0 .1, h .near-accepted)
+
+    send-row : RowHolds store i (recordIn (v .pdus) i)
+    send-row = h .stored i (omega (arith, m .1 .0 .0, h .near-acknowledged)) send-held
+
+    -- the row's kind is the record's, so what is sent is the record
+    pub send-size : recordSize (rowKind store i) ≡ length (recordIn (v .pdus) i)
+    send-size =
+        let long = record-length i send-held in
+        ap recordSize
+        (row-kind store i (recordIn (v .pdus) i) (omega (arith, long)) send-row
+        ∙ pdu-kind i (getD (v .pdus) i []) (h .carried i send-held) (small i send-held))
+        ∙ sym long
+
+    send-record : rowRecord store i ≡ recordIn (v .pdus) i
+    send-record = ap (λ (n : ℕ). take n (drop (rowStart i) store)) send-size ∙ send-row
+
+    pub send-written : (rest : List ℕ) → take (recordSize (rowKind store i)) (rowRecord store i ++ rest) ≡ recordIn (v .pdus) i
+    send-written rest =
+        ap₂ (λ (n : ℕ) (r : List ℕ). take n (r ++ rest)) send-size send-record
+        ∙ take-at (recordIn (v .pdus) i) rest (length (recordIn (v .pdus) i)) refl
+
+  pub send-keeps : (i : ℕ) → i < length (v .pdus) → Holds station near store far (writing v (recordIn (v .pdus) i))
+  send-keeps i l = writes (recordIn (v .pdus) i) (pdu-record i l refl)
+
+  -- ---- a reply
+
+  -- the acknowledged count after a reply is the larger of the two
+  pub larger : (n : ℕ) → acknowledgedAfter (near .acknowledged) n ≡ max (v .confirmed) n
+  larger n = by (ltb n (near .acknowledged)) refl
+    where
+      by : (b : Bool) → ltb n (near .acknowledged) ≡ b → cond b (near .acknowledged) n ≡ max (v .confirmed) n
+      by true e =
+          let less : n < near .acknowledged = ltb-true _ _ e in
+          omega (arith, h .near-acknowledged)
+      by false e =
+          let more : near .acknowledged ≤ n = ltb-false _ _ e in
+          omega (arith, h .near-acknowledged)
+
+  -- a record of a PDU is no reply, and a reply has the number that it was written with
+  reply-number : (r : List ℕ) → Known (v .pdus) (length (v .out)) r → kindIn r ≡ replyKind → numberIn r ≤ length (v .out)
+  reply-number r (pdu-record i l e) is =
+      let c = h .carried i l in
+      absurd (carried-kind (getD (v .pdus) i []) (c .kind) .kind .no-reply (sym (pdu-kind i (getD (v .pdus) i []) c (small i l)) ∙ ap kindIn (sym e) ∙ is))
+  reply-number r (reply-record j l e) is =
+      rw (e, reply-sound j (omega (arith, h .put-out-accepted, h .few)) .number-is) l
+
+  pub reply-keeps : (r : List ℕ) → Known (v .pdus) (length (v .out)) r → Met (plainReply near r) → Holds station (record { accepted = near .accepted; acknowledged = acknowledgedAfter (near .acknowledged) (numberIn r) }) store far (confirming v (max (v .confirmed) (numberIn r)))
+  reply-keeps r w m =
+      let at-most = reply-number r w (m .1 .1 .0) in
+      record {
+        near-accepted = h .near-accepted;
+        near-acknowledged = larger (numberIn r);
+        far-count = h .far-count;
+        acknowledged-put-out = omega (arith, at-most, h .acknowledged-put-out);
+        put-out-accepted = h .put-out-accepted;
+        window = omega (arith, h .window);
+        few = h .few;
+        carried = h .carried;
+        whole = h .whole;
+        stored = λ i held l. h .stored i (omega (arith, held)) l;
+        known = h .known;
+        in-order = h .in-order;
+        station-stands = h .station-stands;
+        station-answered = h .station-answered;
+      }
+
+  -- ---- a record at the far end
+
+  pub known-bytes : (r : List ℕ) → Known (v .pdus) (length (v .out)) r → Bytes r
+  known-bytes r (pdu-record i l e) = subst Bytes (sym e) (record-bytes _ i (getD (v .pdus) i []) (h .carried i l .bytes))
+  known-bytes r (reply-record j l e) = subst Bytes (sym e) (record-bytes replyKind j [] (λ i. omega arith))
+
+  -- what is written and is no reply is the record of a PDU, with that PDU's number
+  pub record Arriving (r : List ℕ) : Type 0 where
+    pub accepted : numberIn r < length (v .pdus)
+    pub pdu : carriedIn r ≡ getD (v .pdus) (numberIn r) []
+
+  pub arriving : (r : List ℕ) → Known (v .pdus) (length (v .out)) r → kindIn r ≢ replyKind → Arriving r
+  arriving r (pdu-record i l e) other =
+      let p : List ℕ = getD (v .pdus) i [] in
+      let number : numberIn r ≡ i = ap numberIn e ∙ pdu-number i p (h .carried i l) (small i l) in
+      record {
+        accepted = omega (arith, number);
+        pdu = ap carriedIn e ∙ carried-in (kindOf (reading p)) i p ∙ ap (λ (n : ℕ). getD (v .pdus) n []) (sym number);
+      }
+  arriving r (reply-record j l e) other =
+      absurd (other (ap kindIn e ∙ kind-in replyKind j [] (omega arith) (omega (arith, h .put-out-accepted, h .few))))
+
+  -- one more call on the far station
+  station-next : (c : StationCall) → called (far .station) c .station ≡ after station (v .calls ++ (c ∷ []))
+  station-next c = ap (λ (s : Station). called s c .station) (h .station-stands) ∙ sym (after-more station (v .calls) c)
+
+  answer-next : (c : StationCall) → v .said ++ (called (far .station) c .answer ∷ []) ≡ answers station (v .calls ++ (c ∷ []))
+  answer-next c =
+      ap₂ (λ (l : List ℕ) (s : Station). l ++ (called s c .answer ∷ [])) (h .station-answered) (h .station-stands)
+      ∙ sym (answers-more station (v .calls) c)
+
+  -- number k, delivered
+  pub delivery-keeps : (r : List ℕ) → Arriving r → numberIn r ≡ far .count → Holds station near store (delivered far r .far) (delivering v (carriedIn r) (replyOf (far .count + 1)) (datagram (carriedIn r)) (heard (far .station) (carriedIn r) .answer))
+  delivery-keeps r a e =
+      let k : ℕ = length (v .out) in
+      let one-more : length (v .out ++ (carriedIn r ∷ [])) ≡ k + 1 = length-append (v .out) (carriedIn r ∷ []) in
+      let this : k < length (v .pdus) = omega (arith, a .accepted, e, h .far-count) in
+      let pdu : carriedIn r ≡ getD (v .pdus) k [] = a .pdu ∙ ap (λ (n : ℕ). getD (v .pdus) n []) (e ∙ h .far-count) in
+      record {
+        near-accepted = h .near-accepted;
+        near-acknowledged = h .near-acknowledged;
+        far-count = ap (λ (n : ℕ). n + 1) (h .far-count) ∙ sym one-more;
+        acknowledged-put-out = omega (arith, one-more, h .acknowledged-put-out);
+        put-out-accepted = omega (arith, one-more, this);
+        window = h .window;
+        few = h .few;
+        carried = h .carried;
+        whole = h .whole;
+        stored = h .stored;
+        known =
+            known-also (v .pdus) (v .records) _ (replyOf (far .count + 1))
+            (λ x w. known-later (v .pdus) k _ x (omega (arith, one-more)) (h .known x w))
+            (reply-record (far .count + 1) (omega (arith, one-more, h .far-count)) refl);
+        in-order =
+            ap₂ (λ (l : List (List ℕ)) (x : List ℕ). l ++ (x ∷ [])) (h .in-order) pdu
+            ∙ sym (take-suc (v .pdus) k [] this)
+            ∙ ap (λ (n : ℕ). take n (v .pdus)) (sym (one-more ∙ add-one k));
+        station-stands = station-next (datagram (carriedIn r));
+        station-answered = answer-next (datagram (carriedIn r));
+      }
+
+  -- ---- the clock
+
+  pub clock-keeps : (t : ℕ) → Holds station near store (record { count = far .count; station = clocked (far .station) t .station }) (timing v (time t) (clocked (far .station) t .answer))
+  clock-keeps t =
+      record {
+        near-accepted = h .near-accepted;
+        near-acknowledged = h .near-acknowledged;
+        far-count = h .far-count;
+        acknowledged-put-out = h .acknowledged-put-out;
+        put-out-accepted = h .put-out-accepted;
+        window = h .window;
+        few = h .few;
+        carried = h .carried;
+        whole = h .whole;
+        stored = h .stored;
+        known = h .known;
+        in-order = h .in-order;
+        station-stands = station-next (time t);
+        station-answered = answer-next (time t);
+      }

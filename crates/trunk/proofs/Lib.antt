@@ -5,3 +5,5 @@ pub mod CallLaws
 pub mod RowLaws
 pub mod LogLaws
 pub mod Invariant
+pub mod Progress
+pub mod Demand3

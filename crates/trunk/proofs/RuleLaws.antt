@@ -8,7 +8,7 @@ use mathlib.Core.Bool.{Bool, true, false, cond, not, _&&_, _||_, true≢false, f
 use mathlib.Core.List.{List, [], _∷_}
 use lib.ListN.{length}
 use lib.Dec.{eqb, ltb, leb}
-use borrow.Author.Tests.{not-true, eqb-true, eqb-false, eq-eqb, ne-eqb, ltb-true, lt-ltb}
+use borrow.Author.Tests.{le-ltb, not-true, eqb-true, eqb-false, eq-eqb, ne-eqb, ltb-true, lt-ltb}
 use native.Mathlib.Omega.{arith}
 use Rattle.wire.specs.Bytes.{num, Bytes}
 use Rattle.wire.specs.First.{Refusal, _given-when_, first}
@@ -31,6 +31,7 @@ use Rattle.trunk.specs.Near.{rows, storeSize, wrongStore, offerRules, is
 use Rattle.trunk.specs.Far.{leastOutput, noRoom, arrivalRules}
 use Rattle.trunk.specs.Plain.{KnownKind, KindRule, LengthRule, CarriedRule, TypeRule, plainOffer, plainSend, plainReply, plainArrival}
 use Rattle.trunk.specs.declared.Near.{Near}
+use Rattle.trunk.proofs.RecordLaws.{Sound, SoundReply}
 
 -- ---- tests that the laws of rules lack
 
@@ -183,3 +184,16 @@ arrival-verdict r b replyRoom room =
     then λ last. carried-says r b pdu
     then λ carried. room-says replyRoom room
     then λ fits. done)
+
+-- ---- records that break no rule
+
+-- the record of a carried PDU, where there is room
+pub arrival-passes : (r : List ℕ) (replyRoom room : ℕ) → Sound r → headSize ≤ replyRoom → leastOutput ≤ room → first (arrivalRules r replyRoom room) ≡ 0
+unfolding arrivalRules
+arrival-passes r replyRoom room s h k =
+    rw (s .known, s .sized, s .no-reply, s .not-last, s .right, room-says replyRoom room .1 (h, k))
+
+-- a reply with a number up to the accepted count
+pub reply-passes : (near : Near) (r : List ℕ) (n : ℕ) → SoundReply r n → n ≤ near .accepted → first (replyRules near r) ≡ 0
+unfolding replyRules
+reply-passes near r n s h = rw (s .known, s .sized, s .reply, s .number-is, le-ltb (near .accepted) n h)
