@@ -15,7 +15,7 @@ use Rattle.station.specs.Units.{made}
 use Rattle.station.specs.declared.Station.{Station}
 use Rattle.trunk.specs.Kinds.{headSize, recordSize}
 use Rattle.trunk.specs.Record.{replyOf, numberIn, carriedIn}
-use Rattle.trunk.specs.Near.{rowKind, offered, storeAfter, sent, sentOut, replied}
+use Rattle.trunk.specs.Near.{rowKind, offerRecord, offered, storeAfter, sent, sentOut, replied}
 use Rattle.trunk.specs.Far.{leastOutput, arrived, replyAfter, outputAfter, ticked}
 use Rattle.trunk.specs.Line.{Entry, offer-made, send-made, reply-heard, record-heard, clock-set, Call, offer, send, to-near, to-far, tick, Line, start, step, run, accepted, putOut, acknowledged, written, Allowed, Fair}
 use Rattle.trunk.specs.Demand.{pduAt, recordAt, count, Says, AllSay, Demand3}
@@ -50,7 +50,7 @@ module _ (station : Station) (near : Near) (store : List ℕ) (far : Far) (log :
   after-offer : (d : List ℕ) → Bytes d → {o : Offered} {store′ : List ℕ} → OfferOutcome near store d o store′ → Stands station (o .near) store′ far (offer-made d (o .answer) ∷ log)
   after-offer d b (offer-refused n f) = also _ (adds-nothing (seen log)) (s .holds) tt
   after-offer d b (offer-taken m) =
-      also _ (adds-accepted (seen log) (writtenForm d)) (offer-keeps station near store far (seen log) (s .holds) d b m) (s .holds .near-accepted)
+      also _ (adds-accepted (seen log) (writtenForm d) (offerRecord near d)) (offer-keeps station near store far (seen log) (s .holds) d b m) (s .holds .near-accepted)
 
   after-send : (i : ℕ) (out : List ℕ) {a : Sent} {out′ : List ℕ} → SendOutcome near store i out a out′ → Stands station near store far (send-made i a out′ ∷ log)
   after-send i out (send-refused n f) = also _ (adds-nothing (seen log)) (s .holds) tt

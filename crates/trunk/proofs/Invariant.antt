@@ -154,6 +154,9 @@ module _ (station : Station) (near : Near) (store : List ℕ) (far : Far) (v : S
         rw (new-record, pdu-length (length (v .pdus)) (writtenForm d) (form .0) room)
         (carried-kind (writtenForm d) (form .0 .kind) .kind .fits-row)
 
+    stored-record : offerRecord near d ≡ recordIn (v .pdus ++ (writtenForm d ∷ [])) (length (v .pdus))
+    stored-record = new-record ∙ ap (recordFor (length (v .pdus))) (sym (new-pdu (v .pdus) (writtenForm d)))
+
     offer-carried : (i : ℕ) → i < length (v .pdus ++ (writtenForm d ∷ [])) → Carried (getD (v .pdus ++ (writtenForm d ∷ [])) i [])
     offer-carried =
         each-more (v .pdus) (writtenForm d) (λ (i : ℕ). Carried (getD (v .pdus ++ (writtenForm d ∷ [])) i []))
@@ -174,10 +177,10 @@ module _ (station : Station) (near : Near) (store : List ℕ) (far : Far) (v : S
 
         new : v .confirmed ≤ length (v .pdus) → Row (length (v .pdus)) (recordIn (v .pdus ++ (writtenForm d ∷ [])) (length (v .pdus)))
         new held =
-            subst₂ Row (h .near-accepted) (new-record ∙ ap (recordFor (length (v .pdus))) (sym (new-pdu (v .pdus) (writtenForm d))))
+            subst₂ Row (h .near-accepted) stored-record
             (row-written store (near .accepted) (offerRecord near d) (m .0) new-fits)
 
-    pub offer-keeps : Holds station (record { accepted = near .accepted + 1; acknowledged = near .acknowledged }) (splice (rowStart (near .accepted)) (offerRecord near d) store) far (accepting v (writtenForm d))
+    pub offer-keeps : Holds station (record { accepted = near .accepted + 1; acknowledged = near .acknowledged }) (splice (rowStart (near .accepted)) (offerRecord near d) store) far (accepting v (writtenForm d) (offerRecord near d))
     offer-keeps =
         let one-more = longer (v .pdus) (writtenForm d) in
         record {
@@ -191,7 +194,10 @@ module _ (station : Station) (near : Near) (store : List ℕ) (far : Far) (v : S
           carried = offer-carried;
           whole = λ l. length-sets store (rowStart (near .accepted)) (offerRecord near d) ∙ m .0;
           stored = λ i held l. offer-stored i l held;
-          known = λ r w. known-more (v .pdus) (length (v .out)) (writtenForm d) r (h .known r w);
+          known =
+              known-also (v .pdus ++ (writtenForm d ∷ [])) (v .records) (length (v .out)) (offerRecord near d)
+              (λ r w. known-more (v .pdus) (length (v .out)) (writtenForm d) r (h .known r w))
+              (pdu-record (length (v .pdus)) (omega (arith, one-more)) stored-record);
           in-order = h .in-order ∙ sym (take-append-le (length (v .out)) (v .pdus) (writtenForm d ∷ []) (h .put-out-accepted));
           station-stands = h .station-stands;
           station-answered = h .station-answered;

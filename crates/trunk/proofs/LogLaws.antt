@@ -53,25 +53,25 @@ module _ (v : Seen) where
         said = append-nil (v .said) i;
       }
 
-  -- a PDU accepted
-  abbrev pub accepting : List ℕ → Seen
-  accepting p =
+  -- a PDU accepted, with its record written
+  abbrev pub accepting : List ℕ → List ℕ → Seen
+  accepting p r =
       record {
         pdus = v .pdus ++ (p ∷ []);
         out = v .out;
         confirmed = v .confirmed;
-        records = v .records;
+        records = v .records ++ (r ∷ []);
         calls = v .calls;
         said = v .said;
       }
 
-  pub adds-accepted : (p : List ℕ) → more v (p ∷ []) [] [] [] [] ≡ accepting p
-  adds-accepted p i =
+  pub adds-accepted : (p r : List ℕ) → more v (p ∷ []) [] (r ∷ []) [] [] ≡ accepting p r
+  adds-accepted p r i =
       record {
         pdus = v .pdus ++ (p ∷ []);
         out = append-nil (v .out) i;
         confirmed = v .confirmed;
-        records = append-nil (v .records) i;
+        records = v .records ++ (r ∷ []);
         calls = append-nil (v .calls) i;
         said = append-nil (v .said) i;
       }
