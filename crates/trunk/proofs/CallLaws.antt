@@ -2,7 +2,7 @@
 -- hold, with nothing changed; or taken, every rule met, with the change that document 01 names. From it, each answer is given exactly where
 -- its plain statement holds (`offer-exactly-when` and the like). By the verdicts of the rules.
 -- Assumes nothing.
-use Prim.Native.Nat.{ℕ, _+_, _≤_, _<_}
+use Prim.Native.Nat.{ℕ, _+_, _≤_, _<_, max}
 use mathlib.Core.Path.{_≡_, refl, sym, ap, subst, _∙_}
 use mathlib.Core.Logic.{_↔_, _≢_}
 use mathlib.Core.Bool.{Bool, true, false, cond}
@@ -79,6 +79,18 @@ send-outcome near store i out = by (eqb (first (sendRules near store i (length o
     by false e = rw e (send-refused _ (v .some _ .0 (refl, eqb-false _ _ e)))
 
 -- ---- taking a reply
+
+-- the acknowledged count after a reply is the larger of the two numbers
+pub after-is-max : (count number : ℕ) → acknowledgedAfter count number ≡ max count number
+after-is-max count number = by (ltb number count) refl
+  where
+    by : (b : Bool) → ltb number count ≡ b → cond b count number ≡ max count number
+    by true e =
+        let less : number < count = ltb-true _ _ e in
+        omega arith
+    by false e =
+        let least : count ≤ number = ltb-false _ _ e in
+        omega arith
 
 -- a reply's answer with the near end after it
 pub data ReplyOutcome (near : Near) (r : List ℕ) : Replied → Type 0 where

@@ -31,6 +31,7 @@ use Rattle.trunk.specs.declared.Near.{Near}
 use Rattle.trunk.specs.declared.Far.{Far}
 use Rattle.trunk.proofs.RecordLaws.{Carried, carried-kind, carried-form, carried-in, record-bytes, recordFor, pdu-kind, pdu-number, pdu-length, SoundReply, reply-sound, length-reply, kind-in}
 use Rattle.trunk.proofs.RuleLaws.{type-says}
+use Rattle.trunk.proofs.CallLaws.{after-is-max}
 use Rattle.trunk.proofs.RowLaws.{RowHolds, row-written, row-kept, rows-differ, row-kind}
 use Rattle.trunk.proofs.LogLaws.{Seen, accepting, writing, confirming, delivering, timing, after-more, answers-more}
 
@@ -105,7 +106,6 @@ known-also pdus rs k r old new x m =
     elim (List·Memᴰ·append-cases rs m) [ inl a ↦ old x a | inr b ↦ subst (Known pdus k) (sym (List·Memᴰ·eq-of-singleton b)) new ]
 
 module _ (station : Station) (near : Near) (store : List ℕ) (far : Far) (v : Seen) (h : Holds station near store far v) where
-
   pub small : (i : ℕ) → i < length (v .pdus) → i < lastNumber
   small i l = omega (arith, h .few)
 
@@ -236,15 +236,7 @@ module _ (station : Station) (near : Near) (store : List ℕ) (far : Far) (v : S
 
   -- the acknowledged count after a reply is the larger of the two
   pub larger : (n : ℕ) → acknowledgedAfter (near .acknowledged) n ≡ max (v .confirmed) n
-  larger n = by (ltb n (near .acknowledged)) refl
-    where
-      by : (b : Bool) → ltb n (near .acknowledged) ≡ b → cond b (near .acknowledged) n ≡ max (v .confirmed) n
-      by true e =
-          let less : n < near .acknowledged = ltb-true _ _ e in
-          omega (arith, h .near-acknowledged)
-      by false e =
-          let more : near .acknowledged ≤ n = ltb-false _ _ e in
-          omega (arith, h .near-acknowledged)
+  larger n = after-is-max (near .acknowledged) n ∙ ap (λ (a : ℕ). max a n) (h .near-acknowledged)
 
   -- a record of a PDU is no reply, and a reply has the number that it was written with
   reply-number : (r : List ℕ) → Known (v .pdus) (length (v .out)) r → kindIn r ≡ replyKind → numberIn r ≤ length (v .out)

@@ -2,6 +2,7 @@
 pub mod RecordLaws
 pub mod RuleLaws
 pub mod CallLaws
+pub mod ExactlyWhen
 pub mod RowLaws
 pub mod LogLaws
 pub mod Invariant
