@@ -26,20 +26,16 @@ use Rattle.trunk.specs.declared.Sent.{Sent}
 use Rattle.trunk.specs.declared.Replied.{Replied}
 use Rattle.trunk.specs.declared.Arrived.{Arrived}
 use Rattle.trunk.specs.declared.Ticked.{Ticked}
-use Rattle.trunk.proofs.RecordLaws.{length-reply}
+use Rattle.trunk.proofs.RecordLaws.{reply-written}
 use Rattle.trunk.proofs.CallLaws.{OfferOutcome, offer-refused, offer-taken, offer-outcome, SendOutcome, send-refused, send-taken, send-outcome, ReplyOutcome, reply-refused, reply-taken, reply-outcome, ArrivalOutcome, arrival-refused, arrival-delivered, arrival-repeat, arrival-early, arrival-outcome}
 use Rattle.trunk.proofs.LogLaws.{Seen, seen, adds-nothing, accepting, adds-accepted, writing, adds-written, confirming, delivering, adds-delivered, timing, adds-timed}
-use Rattle.trunk.proofs.Progress.{next-reply, acknowledged-next}
-use Rattle.trunk.proofs.Invariant.{recordIn, Known, reply-record, Holds, writes, offer-keeps, send-held, send-size, send-written, send-keeps, larger, reply-keeps, known-bytes, arriving, delivery-keeps, clock-keeps}
+use Rattle.trunk.proofs.Progress.{replied-next, acknowledged-next}
+use Rattle.trunk.proofs.Invariant.{recordIn, Known, reply-record, Holds, writes, offer-keeps, held-size, held-written, send-keeps, larger, reply-keeps, known-bytes, arriving, delivery-keeps, clock-keeps}
 
 -- after a log: the invariant, and every entry says what it should
 pub record Stands (station : Station) (near : Near) (store : List ℕ) (far : Far) (log : List Entry) : Type 0 where
   pub holds : Holds station near store far (seen log)
   pub all-say : AllSay log
-
--- a reply at the start of its buffer
-reply-written : (n : ℕ) (rest : List ℕ) → take headSize (replyOf n ++ rest) ≡ replyOf n
-reply-written n rest = take-at (replyOf n) rest headSize (length-reply n)
 
 module _ (station : Station) (near : Near) (store : List ℕ) (far : Far) (log : List Entry) (s : Stands station near store far log) where
   -- an entry, with what it says
@@ -55,13 +51,14 @@ module _ (station : Station) (near : Near) (store : List ℕ) (far : Far) (log :
   after-send : (i : ℕ) (out : List ℕ) {a : Sent} {out′ : List ℕ} → SendOutcome near store i out a out′ → Stands station near store far (send-made i a out′ ∷ log)
   after-send i out (send-refused n f) = also _ (adds-nothing (seen log)) (s .holds) tt
   after-send i out (send-taken m) =
-      let held = send-held station near store far (seen log) (s .holds) i (length out) m in
-      let size = send-size station near store far (seen log) (s .holds) i (length out) m in
-      let record-is = send-written station near store far (seen log) (s .holds) i (length out) m (drop (recordSize (rowKind store i)) out) in
+      let h = s .holds in
+      let held : acknowledged log ≤ i = omega (arith, m .1 .0 .0, h .near-acknowledged) in
+      let below : i < length (accepted log) = omega (arith, m .1 .0 .1, h .near-accepted) in
+      let record-is = held-written station near store far (seen log) h i held below (drop (recordSize (rowKind store i)) out) in
       also _
       (adds-written (seen log) _ ∙ ap (writing (seen log)) record-is)
-      (send-keeps station near store far (seen log) (s .holds) i held)
-      (held, record-is, size)
+      (send-keeps station near store far (seen log) h i held below)
+      (below, record-is, held-size station near store far (seen log) h i held below)
 
   after-reply : (r : List ℕ) → List·Memᴰ r (written log) → {o : Replied} → ReplyOutcome near r o → Stands station (o .near) store far (reply-heard r (o .answer) ∷ log)
   after-reply r w (reply-refused n f) = also _ (adds-nothing (seen log)) (s .holds) tt
@@ -100,10 +97,10 @@ module _ (station : Station) (near : Near) (store : List ℕ) (far : Far) (log :
 
 -- ---- a list of calls
 
-abbrev StandsAt : Station → Line → Type 0
+abbrev pub StandsAt : Station → Line → Type 0
 StandsAt station l = Stands station (l .near) (l .store) (l .far) (l .log)
 
-step-stands : (station : Station) (l : Line) (c : Call) → Allowed (l .log) c → StandsAt station l → StandsAt station (step l c)
+pub step-stands : (station : Station) (l : Line) (c : Call) → Allowed (l .log) c → StandsAt station l → StandsAt station (step l c)
 step-stands station l (offer d) b s = after-offer station (l .near) (l .store) (l .far) (l .log) s d b (offer-outcome (l .near) (l .store) d)
 step-stands station l (send i out) f s = after-send station (l .near) (l .store) (l .far) (l .log) s i out (send-outcome (l .near) (l .store) i out)
 step-stands station l (to-near r) w s = after-reply station (l .near) (l .store) (l .far) (l .log) s r w (reply-outcome (l .near) r)
@@ -116,7 +113,7 @@ pub run-stands : (station : Station) (l : Line) (calls : List Call) → Fair l c
 run-stands station l [] f s = s
 run-stands station l (c ∷ cs) f s = run-stands station (step l c) cs (f .1) (step-stands station l c (f .0) s)
 
-start-stands : (station : Station) (store : List ℕ) → StandsAt station (start station store)
+pub start-stands : (station : Station) (store : List ℕ) → StandsAt station (start station store)
 start-stands station store =
     record {
       holds =
@@ -141,7 +138,7 @@ start-stands station store =
 
 -- ---- demand 3
 
-stands-demand : (station : Station) (l : Line) → StandsAt station l → Demand3 station l
+pub stands-demand : (station : Station) (l : Line) → StandsAt station l → Demand3 station l
 stands-demand station l s =
     let h = s .holds in
     record {
@@ -156,9 +153,11 @@ stands-demand station l s =
       station-answered = h .station-answered;
       all-say = s .all-say;
       next = λ more reply out fits room.
-          ap (λ (r : List ℕ). replied (l .near) r .near .acknowledged)
-          (next-reply station (l .near) (l .store) (l .far) (seen (l .log)) h more reply out fits room)
-          ∙ acknowledged-next station (l .near) (l .store) (l .far) (seen (l .log)) h (count (l .log) + 1) (omega (arith, h .acknowledged-put-out)) (omega (arith, more));
+          let k : ℕ = count (l .log) in
+          let answer = replied-next station (l .near) (l .store) (l .far) (seen (l .log)) h k reply out more (omega arith) fits room in
+          ap (λ (r : List ℕ). replied (l .near) r .near .acknowledged) (answer .reply-is)
+          ∙ acknowledged-next station (l .near) (l .store) (l .far) (seen (l .log)) h (answer .number) (omega (arith, h .acknowledged-put-out, answer .above)) (answer .accepted)
+          ∙ answer .at-count refl;
     }
 
 -- for every fair list of calls, from a fresh near end, any store, and a fresh far end, its station of any settings

@@ -113,7 +113,7 @@ module _ (station : Station) (near : Near) (store : List ℕ) (far : Far) (v : S
   record-length : (i : ℕ) → i < length (v .pdus) → length (recordIn (v .pdus) i) ≡ recordSize (kindOf (reading (getD (v .pdus) i [])))
   record-length i l = pdu-length i (getD (v .pdus) i []) (h .carried i l) (small i l)
 
-  record-fits : (i : ℕ) → i < length (v .pdus) → length (recordIn (v .pdus) i) ≤ rowSize
+  pub record-fits : (i : ℕ) → i < length (v .pdus) → length (recordIn (v .pdus) i) ≤ rowSize
   record-fits i l = rw (record-length i l) (carried-kind (getD (v .pdus) i []) (h .carried i l .kind) .kind .fits-row)
 
   -- one more record written
@@ -205,32 +205,24 @@ module _ (station : Station) (near : Near) (store : List ℕ) (far : Far) (v : S
 
   -- ---- a send
 
-  module _ (i room : ℕ) (m : Met (plainSend near store i room)) where
-    pub send-held : i < length (v .pdus)
-    send-held = omega (arith, m .1 .0 .1, h .near-accepted)
+  module _ (i : ℕ) (held : v .confirmed ≤ i) (l : i < length (v .pdus)) where
+    -- the row's kind is the PDU's, so what is sent is the record
+    pub held-kind : rowKind store i ≡ kindOf (reading (getD (v .pdus) i []))
+    held-kind =
+        row-kind store i (recordIn (v .pdus) i) (omega (arith, record-length i l)) (h .stored i held l)
+        ∙ pdu-kind i (getD (v .pdus) i []) (h .carried i l) (small i l)
 
-    send-row : RowHolds store i (recordIn (v .pdus) i)
-    send-row = h .stored i (omega (arith, m .1 .0 .0, h .near-acknowledged)) send-held
+    pub held-size : recordSize (rowKind store i) ≡ length (recordIn (v .pdus) i)
+    held-size = ap recordSize held-kind ∙ sym (record-length i l)
 
-    -- the row's kind is the record's, so what is sent is the record
-    pub send-size : recordSize (rowKind store i) ≡ length (recordIn (v .pdus) i)
-    send-size =
-        let long = record-length i send-held in
-        ap recordSize
-        (row-kind store i (recordIn (v .pdus) i) (omega (arith, long)) send-row
-        ∙ pdu-kind i (getD (v .pdus) i []) (h .carried i send-held) (small i send-held))
-        ∙ sym long
-
-    send-record : rowRecord store i ≡ recordIn (v .pdus) i
-    send-record = ap (λ (n : ℕ). take n (drop (rowStart i) store)) send-size ∙ send-row
-
-    pub send-written : (rest : List ℕ) → take (recordSize (rowKind store i)) (rowRecord store i ++ rest) ≡ recordIn (v .pdus) i
-    send-written rest =
-        ap₂ (λ (n : ℕ) (r : List ℕ). take n (r ++ rest)) send-size send-record
+    pub held-written : (rest : List ℕ) → take (recordSize (rowKind store i)) (rowRecord store i ++ rest) ≡ recordIn (v .pdus) i
+    held-written rest =
+        ap₂ (λ (n : ℕ) (r : List ℕ). take n (r ++ rest)) held-size
+        (ap (λ (n : ℕ). take n (drop (rowStart i) store)) held-size ∙ h .stored i held l)
         ∙ take-at (recordIn (v .pdus) i) rest (length (recordIn (v .pdus) i)) refl
 
-  pub send-keeps : (i : ℕ) → i < length (v .pdus) → Holds station near store far (writing v (recordIn (v .pdus) i))
-  send-keeps i l = writes (recordIn (v .pdus) i) (pdu-record i l refl)
+    pub send-keeps : Holds station near store far (writing v (recordIn (v .pdus) i))
+    send-keeps = writes (recordIn (v .pdus) i) (pdu-record i l refl)
 
   -- ---- a reply
 

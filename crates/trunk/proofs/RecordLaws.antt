@@ -6,8 +6,8 @@ use mathlib.Core.Path.{_≡_, refl, sym, ap, subst, _∙_}
 use mathlib.Core.Logic.{_≢_, _⊎_, inl, inr}
 use mathlib.Core.Bool.{Bool, true, false, cond, not, and-false}
 use mathlib.Core.List.{List, [], _∷_, _++_, append-assoc}
-use lib.ListN.{length, getD, length-append}
-use lib.Seq.{drop-at}
+use lib.ListN.{length, getD, take, length-append}
+use lib.Seq.{take-at, drop-at}
 use lib.Dec.{eqb}
 use borrow.Author.Tests.{eqb-true, eq-eqb, ne-eqb, le-leb}
 use native.Mathlib.Omega.{arith}
@@ -218,3 +218,7 @@ reply-sound number h =
       reply = rw kind;
       number-is = number-in replyKind number [] (omega arith) h;
     }
+
+-- a reply at the start of its buffer
+pub reply-written : (number : ℕ) (rest : List ℕ) → take headSize (replyOf number ++ rest) ≡ replyOf number
+reply-written number rest = take-at (replyOf number) rest headSize (length-reply number)
