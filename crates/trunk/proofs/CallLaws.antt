@@ -164,7 +164,3 @@ sends near store i out e = (rw e, rw e)
 pub acknowledges : (near : Near) (r : List ℕ) → first (replyRules near r) ≡ 0 → replied near r .near .acknowledged ≡ acknowledgedAfter (near .acknowledged) (numberIn r)
 unfolding replied
 acknowledges near r e = rw e
-
-pub delivers : (far : Far) (r reply out : List ℕ) → first (arrivalRules r (length reply) (length out)) ≡ 0 → numberIn r ≡ far .count → (arrived far r (length reply) (length out) ≡ delivered far r) × (replyAfter far r reply (length out) ≡ replyOf (far .count + 1) ++ drop headSize reply)
-unfolding arrived replyAfter
-delivers far r reply out e same = (rw (e, eq-eqb _ _ same), rw (e, eq-eqb _ _ same))

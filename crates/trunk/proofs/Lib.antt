@@ -8,3 +8,5 @@ pub mod LogLaws
 pub mod Invariant
 pub mod Progress
 pub mod Demand3
+pub mod Consequences
+pub mod Retry

@@ -40,10 +40,13 @@ module _ (station : Station) (near : Near) (store : List ℕ) (far : Far) (v : S
       let same = held-kind station near store far v h i held l in
       let fits : recordSize (rowKind store i) ≤ length out = omega (arith, held-size station near store far v h i held l, record-fits station near store far v h i l) in
       let passes =
-      send-verdict near store i (length out) .none .1
-      (h .whole (omega arith),
-      ((omega (arith, h .near-acknowledged), omega (arith, h .near-accepted)),
-      (subst KnownKind (sym same) (known-kind _ kind), ((λ e. kind .no-reply (sym same ∙ e)), (fits, tt))))) in
+      send-verdict near store i (length out) .none .1 (
+        h .whole (omega arith),
+        (
+          (omega (arith, h .near-acknowledged), omega (arith, h .near-accepted)),
+          (subst KnownKind (sym same) (known-kind _ kind), ((λ e. kind .no-reply (sym same ∙ e)), (fits, tt))),
+        ),
+      ) in
       let done = sends near store i out passes in
       (done .0, ap (take (recordSize (rowKind store i))) (done .1) ∙ held-written station near store far v h i held l (drop (recordSize (rowKind store i)) out))
 
