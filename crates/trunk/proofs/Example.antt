@@ -1,0 +1,234 @@
+-- One list of calls, computed: it is fair, and each call answers as its line says. A station on the far side is told of a unit, enters the net
+-- and passes an order, while one record comes early, one is repeated, one is lost, two replies are lost, and four calls are refused.
+-- Assumes nothing.
+use Prim.Native.Nat.{ℕ, zero, suc, _+_, _*_, _<_}
+use mathlib.Core.Path.{_≡_, refl, sym, ap₂, _∙_}
+use mathlib.Core.Bool.{Bool, true, false, _&&_, _||_, false≢true}
+use mathlib.Core.List.{List, [], _∷_, _++_, List·Memᴰ, List·Memᴰ·head, List·Memᴰ·tail}
+use lib.ListN.{length, replicate}
+use lib.Dec.{eqb, ltb}
+use lib.Pow.{areBytes}
+use borrow.Author.Tests.{eqb-true, ltb-true}
+use native.Mathlib.Omega.{arith}
+use Rattle.wire.specs.Bytes.{big, Bytes}
+use Rattle.wire.proofs.TableLaws.{both-true}
+use Rattle.pdu.specs.Records.{transmitterOf, signalOf}
+use Rattle.pdu.specs.Reading.{wrongVersion, wrongType, wrongLength, wrongFixed, wrongSync, wrongBits, networkRules, bodyRules, transmitterRules, signalRules, readingRules, refusal, content, reading}
+use Rattle.pdu.specs.Writing.{transmitterBytes, signalHead, signalBytes, writtenForm, inWrittenForm}
+use Rattle.station.specs.Units.{made}
+use Rattle.trunk.specs.Kinds.{transmitterKind}
+use Rattle.trunk.specs.Record.{recordOf, replyOf, unknownKind, wrongSize, isReply, lastOfAll, wrongCarried}
+use Rattle.trunk.specs.Near.{storeSize, rowSize, offerRules, offered, storeAfter, sendRules, sent, sentOut, replyRules, replied}
+use Rattle.trunk.specs.Far.{leastOutput, arrivalRules, arrived, replyAfter, outputAfter, ticked}
+use Rattle.trunk.specs.Line.{Entry, offer-made, send-made, reply-heard, record-heard, clock-set, Call, offer, send, to-near, to-far, tick, Line, start, step, run, collect, accepted, putOut, acknowledged, written, Allowed, Fair}
+use Rattle.trunk.specs.Demand.{count}
+use Rattle.trunk.specs.declared.Offer.{Offer}
+use Rattle.trunk.specs.declared.Offer.the-variants.{Refused as offerRefused, Taken}
+use Rattle.trunk.specs.declared.Sent.{Sent}
+use Rattle.trunk.specs.declared.Sent.the-variants.{Refused as sendRefused, Size}
+use Rattle.trunk.specs.declared.Reply.{Reply}
+use Rattle.trunk.specs.declared.Reply.the-variants.{Refused as replyRefused, Acknowledged}
+use Rattle.trunk.specs.declared.Arrival.{Arrival}
+use Rattle.trunk.specs.declared.Arrival.the-variants.{Refused as arrivalRefused, Delivered, Repeat, Early}
+
+-- ---- a test of fairness
+
+-- whether two lists of bytes are the same, and whether one is among others
+same : List ℕ → List ℕ → Bool
+same [] [] = true
+same [] (y ∷ b) = false
+same (x ∷ a) [] = false
+same (x ∷ a) (y ∷ b) = eqb x y && same a b
+
+among : List ℕ → List (List ℕ) → Bool
+among r [] = false
+among r (x ∷ l) = same r x || among r l
+
+-- whether every call of a list is allowed where it is made
+allowed : List Entry → Call → Bool
+allowed log (offer d) = areBytes d
+allowed log (send i out) = true
+allowed log (to-near r) = among r (written log)
+allowed log (to-far r reply out) = among r (written log)
+allowed log (tick t) = true
+
+fair : Line → List Call → Bool
+fair l [] = true
+fair l (c ∷ cs) = allowed (l .log) c && fair (step l c) cs
+
+same-says : (a b : List ℕ) → same a b ≡ true → a ≡ b
+unfolding same
+same-says [] [] e = refl
+same-says [] (y ∷ b) e = absurd (false≢true e)
+same-says (x ∷ a) [] e = absurd (false≢true e)
+same-says (x ∷ a) (y ∷ b) e =
+    let h = both-true (eqb x y) (same a b) e in
+    ap₂ (λ (z : ℕ) (c : List ℕ). z ∷ c) (eqb-true x y (h .0)) (same-says a b (h .1))
+
+among-says : (r : List ℕ) (l : List (List ℕ)) → among r l ≡ true → List·Memᴰ r l
+unfolding among
+among-says r [] e = absurd (false≢true e)
+among-says r (x ∷ l) e = by (same r x) refl (among-says r l) e
+  where
+    by : (b : Bool) → same r x ≡ b → (among r l ≡ true → List·Memᴰ r l) → (b || among r l) ≡ true → List·Memᴰ r (x ∷ l)
+    by true s later t = List·Memᴰ·head (same-says r x s)
+    by false s later t = List·Memᴰ·tail (later t)
+
+bytes-say : (d : List ℕ) → areBytes d ≡ true → Bytes d
+bytes-say [] e i = omega arith
+bytes-say (x ∷ d) e zero = ltb-true x 256 (both-true (ltb x 256) (areBytes d) e .0)
+bytes-say (x ∷ d) e (suc i) = bytes-say d (both-true (ltb x 256) (areBytes d) e .1) i
+
+allowed-says : (log : List Entry) (c : Call) → allowed log c ≡ true → Allowed log c
+unfolding allowed
+allowed-says log (offer d) e = bytes-say d e
+allowed-says log (send i out) e = tt
+allowed-says log (to-near r) e = among-says r (written log) e
+allowed-says log (to-far r reply out) e = among-says r (written log) e
+allowed-says log (tick t) e = tt
+
+fair-says : (l : Line) (calls : List Call) → fair l calls ≡ true → Fair l calls
+unfolding fair
+fair-says l [] e = tt
+fair-says l (c ∷ cs) e =
+    let h = both-true (allowed (l .log) c) (fair (step l c) cs) e in
+    (allowed-says (l .log) c (h .0), fair-says (step l c) cs (h .1))
+
+-- ---- the datagrams
+
+unfoldable pub zeros : ℕ → List ℕ
+zeros n = replicate n 0
+
+-- bytes 0 to 19 of version 6, exercise 1: the PDU type, its length, and the unit of site 1, application 2, entity 3, radio 4
+unfoldable pub start-of : ℕ → ℕ → List ℕ
+start-of type size = (6 ∷ 1 ∷ type ∷ 4 ∷ zeros 4) ++ big 2 size ++ (0 ∷ 0 ∷ 0 ∷ 1 ∷ 0 ∷ 2 ∷ 0 ∷ 3 ∷ 0 ∷ 4 ∷ [])
+
+-- the unit's Transmitter: level 2, in fine synchronization
+unfoldable pub unit : List ℕ
+unit =
+    start-of 25 112
+    ++ (zeros 4 ++ (21 ∷ zeros 4 ++ (8 ∷ zeros 60)))
+    ++ (0 ∷ 7 ∷ 0 ∷ 0 ∷ 0 ∷ 8 ∷ zeros 4 ++ (8 ∷ zeros 3))
+    ++ (2 ∷ 1 ∷ 0 ∷ 3 ∷ zeros 4)
+
+-- its type 0 Signal on net 0 with so many words, whose bytes are given; of no words where there are none
+unfoldable pub signal : ℕ → List ℕ → ℕ → List ℕ
+signal size words fill =
+    start-of 26 size
+    ++ (big 2 16384 ++ big 2 100 ++ zeros 4 ++ big 2 (8 * (26 + length words)) ++ zeros 2)
+    ++ zeros 20
+    ++ (zeros 6 ++ words ++ zeros fill)
+
+-- a J0.0, a PPLI, and an order without words
+unfoldable pub entry-message : List ℕ
+entry-message = signal 68 (zeros 10) 0
+
+unfoldable pub ppli : List ℕ
+ppli = signal 68 (zeros 9 ++ (8 ∷ [])) 0
+
+unfoldable pub order : List ℕ
+order = signal 60 [] 2
+
+-- ---- the calls
+
+-- what a call answered; a delivery's by its size, and a clock call's not at all: those are the station's own
+pub data Said : Type 0 where
+  offer-said : Offer → Said
+  send-said : Sent → Said
+  reply-said : Reply → Said
+  refused-at-far : ℕ → Said
+  delivered-size : ℕ → Said
+  repeat-said : Said
+  early-said : Said
+  clock-said : Said
+
+unfoldable pub said : Entry → Said
+said (offer-made d a) = offer-said a
+said (send-made i a out) = send-said a
+said (reply-heard r a) = reply-said a
+said (record-heard r (arrivalRefused n) reply out) = refused-at-far n
+said (record-heard r (Delivered size answer) reply out) = delivered-size size
+said (record-heard r Repeat reply out) = repeat-said
+said (record-heard r Early reply out) = early-said
+said (clock-set t a) = clock-said
+
+-- a send into a buffer, and an arrival at the far end, with room
+unfoldable pub sending : ℕ → Call
+sending i = send i (replicate rowSize 170)
+
+unfoldable pub arriving : List ℕ → Call
+arriving r = to-far r (replicate 8 170) (replicate leastOutput 170)
+
+unfoldable pub record-0 : List ℕ
+record-0 = recordOf transmitterKind 0 unit
+
+unfoldable pub record-1 : List ℕ
+record-1 = recordOf 1 1 entry-message
+
+unfoldable pub record-2 : List ℕ
+record-2 = recordOf 1 2 ppli
+
+-- each call with its answer
+unfoldable pub story : List (Call × Said)
+story =
+    (offer unit, offer-said (Taken 0))
+    ∷ (offer (zeros 11), offer-said (offerRefused 1))
+    ∷ (offer entry-message, offer-said (Taken 1))
+    ∷ (offer ppli, offer-said (Taken 2))
+    ∷ (offer order, offer-said (Taken 3))
+    ∷ (sending 1, send-said (Size 73))
+    ∷ (arriving record-1, early-said)
+    ∷ (sending 0, send-said (Size 117))
+    ∷ (send 0 (zeros 116), send-said (sendRefused 16))
+    ∷ (arriving record-0, delivered-size 112)
+    ∷ (arriving record-0, repeat-said)
+    ∷ (tick 30, clock-said)
+    ∷ (arriving record-1, delivered-size 68)
+    ∷ (to-near (replyOf 2), reply-said (Acknowledged 2))
+    ∷ (to-near (replyOf 1), reply-said (Acknowledged 2))
+    ∷ (to-near record-0, reply-said (replyRefused 29))
+    ∷ (sending 0, send-said (sendRefused 26))
+    ∷ (sending 2, send-said (Size 73))
+    ∷ (to-far record-2 (zeros 4) (zeros 180), refused-at-far 16)
+    ∷ (arriving record-2, delivered-size 68)
+    ∷ (sending 3, send-said (Size 65))
+    ∷ (tick 20, clock-said)
+    ∷ []
+
+abbrev pub calls-of : List (Call × Said) → List Call
+calls-of [] = []
+calls-of (x ∷ xs) = x .0 ∷ calls-of xs
+
+abbrev pub answers-of : List (Call × Said) → List Said
+answers-of [] = []
+answers-of (x ∷ xs) = x .1 ∷ answers-of xs
+
+-- from a store with whatever it held, and a station of level 2, net 0
+unfoldable pub before : Line
+before = start (made 2 0 .station) (replicate storeSize 255)
+
+unfoldable pub after-all : Line
+after-all = run before (calls-of story)
+
+-- the checker computes the test of fairness, each answer, and the three counts
+computed : (fair before (calls-of story) ≡ true) × (collect (λ (e : Entry). said e ∷ []) (after-all .log) ≡ answers-of story) × (length (accepted (after-all .log)) ≡ 4) × (count (after-all .log) ≡ 3) × (acknowledged (after-all .log) ≡ 2)
+unfolding fair allowed among same said story before after-all sending arriving record-0 record-1 record-2 unit entry-message ppli order signal start-of zeros offered storeAfter offerRules sent sentOut sendRules replied replyRules arrived replyAfter outputAfter arrivalRules ticked recordOf unknownKind wrongSize isReply lastOfAll wrongCarried wrongVersion wrongType wrongLength wrongFixed wrongSync wrongBits networkRules bodyRules transmitterRules signalRules readingRules refusal content reading transmitterOf signalOf transmitterBytes signalHead signalBytes writtenForm inWrittenForm
+computed = (refl, refl, refl, refl, refl)
+
+-- the list is fair, so demand 3 speaks of it; each call answers as its line says; four PDUs are accepted, three put out, two acknowledged
+pub record Example : Type 0 where
+  pub fairly : Fair before (calls-of story)
+  pub answered : collect (λ (e : Entry). said e ∷ []) (after-all .log) ≡ answers-of story
+  pub four-accepted : length (accepted (after-all .log)) ≡ 4
+  pub three-put-out : count (after-all .log) ≡ 3
+  pub two-acknowledged : acknowledged (after-all .log) ≡ 2
+
+pub example : Example
+example =
+    record {
+      fairly = fair-says before (calls-of story) (computed .0);
+      answered = computed .1;
+      four-accepted = computed .2;
+      three-put-out = computed .3;
+      two-acknowledged = computed .4;
+    }
