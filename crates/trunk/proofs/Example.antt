@@ -1,8 +1,8 @@
 -- One list of calls, computed: it is fair, and each call answers as its line says. A station on the far side is told of a unit, enters the net
 -- and passes an order, while one record comes early, one is repeated, one is lost, two replies are lost, and four calls are refused.
 -- Assumes nothing.
-use Prim.Native.Nat.{ℕ, zero, suc, _+_, _*_, _<_}
-use mathlib.Core.Path.{_≡_, refl, sym, ap₂, _∙_}
+use Prim.Native.Nat.{ℕ, zero, suc, _+_, _*_}
+use mathlib.Core.Path.{_≡_, refl, ap₂}
 use mathlib.Core.Bool.{Bool, true, false, _&&_, _||_, false≢true}
 use mathlib.Core.List.{List, [], _∷_, _++_, List·Memᴰ, List·Memᴰ·head, List·Memᴰ·tail}
 use lib.ListN.{length, replicate}
@@ -20,7 +20,7 @@ use Rattle.trunk.specs.Kinds.{transmitterKind}
 use Rattle.trunk.specs.Record.{recordOf, replyOf, unknownKind, wrongSize, isReply, lastOfAll, wrongCarried}
 use Rattle.trunk.specs.Near.{storeSize, rowSize, offerRules, offered, storeAfter, sendRules, sent, sentOut, replyRules, replied}
 use Rattle.trunk.specs.Far.{leastOutput, arrivalRules, arrived, replyAfter, outputAfter, ticked}
-use Rattle.trunk.specs.Line.{Entry, offer-made, send-made, reply-heard, record-heard, clock-set, Call, offer, send, to-near, to-far, tick, Line, start, step, run, collect, accepted, putOut, acknowledged, written, Allowed, Fair}
+use Rattle.trunk.specs.Line.{Entry, offer-made, send-made, reply-heard, record-heard, clock-set, Call, offer, send, to-near, to-far, tick, Line, start, step, run, collect, accepted, acknowledged, written, Allowed, Fair}
 use Rattle.trunk.specs.Demand.{count}
 use Rattle.trunk.specs.declared.Offer.{Offer}
 use Rattle.trunk.specs.declared.Offer.the-variants.{Refused as offerRefused, Taken}
@@ -28,7 +28,6 @@ use Rattle.trunk.specs.declared.Sent.{Sent}
 use Rattle.trunk.specs.declared.Sent.the-variants.{Refused as sendRefused, Size}
 use Rattle.trunk.specs.declared.Reply.{Reply}
 use Rattle.trunk.specs.declared.Reply.the-variants.{Refused as replyRefused, Acknowledged}
-use Rattle.trunk.specs.declared.Arrival.{Arrival}
 use Rattle.trunk.specs.declared.Arrival.the-variants.{Refused as arrivalRefused, Delivered, Repeat, Early}
 
 -- ---- a test of fairness

@@ -41,18 +41,6 @@ more v p o r c s =
     }
 
 module _ (v : Seen) where
-  -- nothing
-  pub adds-nothing : more v [] [] [] [] [] ≡ v
-  adds-nothing i =
-      record {
-        pdus = append-nil (v .pdus) i;
-        out = append-nil (v .out) i;
-        confirmed = v .confirmed;
-        records = append-nil (v .records) i;
-        calls = append-nil (v .calls) i;
-        said = append-nil (v .said) i;
-      }
-
   -- a PDU accepted, with its record written
   abbrev pub accepting : List ℕ → List ℕ → Seen
   accepting p r =
@@ -65,17 +53,6 @@ module _ (v : Seen) where
         said = v .said;
       }
 
-  pub adds-accepted : (p r : List ℕ) → more v (p ∷ []) [] (r ∷ []) [] [] ≡ accepting p r
-  adds-accepted p r i =
-      record {
-        pdus = v .pdus ++ (p ∷ []);
-        out = append-nil (v .out) i;
-        confirmed = v .confirmed;
-        records = v .records ++ (r ∷ []);
-        calls = append-nil (v .calls) i;
-        said = append-nil (v .said) i;
-      }
-
   -- a record written
   abbrev pub writing : List ℕ → Seen
   writing r =
@@ -86,17 +63,6 @@ module _ (v : Seen) where
         records = v .records ++ (r ∷ []);
         calls = v .calls;
         said = v .said;
-      }
-
-  pub adds-written : (r : List ℕ) → more v [] [] (r ∷ []) [] [] ≡ writing r
-  adds-written r i =
-      record {
-        pdus = append-nil (v .pdus) i;
-        out = append-nil (v .out) i;
-        confirmed = v .confirmed;
-        records = v .records ++ (r ∷ []);
-        calls = append-nil (v .calls) i;
-        said = append-nil (v .said) i;
       }
 
   -- a reply taken
@@ -123,17 +89,6 @@ module _ (v : Seen) where
         said = v .said ++ (n ∷ []);
       }
 
-  pub adds-delivered : (p r : List ℕ) (c : StationCall) (n : ℕ) → more v [] (p ∷ []) (r ∷ []) (c ∷ []) (n ∷ []) ≡ delivering p r c n
-  adds-delivered p r c n i =
-      record {
-        pdus = append-nil (v .pdus) i;
-        out = v .out ++ (p ∷ []);
-        confirmed = v .confirmed;
-        records = v .records ++ (r ∷ []);
-        calls = v .calls ++ (c ∷ []);
-        said = v .said ++ (n ∷ []);
-      }
-
   -- a clock call
   abbrev pub timing : StationCall → ℕ → Seen
   timing c n =
@@ -146,16 +101,40 @@ module _ (v : Seen) where
         said = v .said ++ (n ∷ []);
       }
 
+  -- an entry adds one of these, or nothing; where it adds nothing to a list, nothing stands behind that list
+  adds : (p o r : List (List ℕ)) (c : List StationCall) (n : List ℕ) {w : Seen} → v .pdus ++ p ≡ w .pdus → v .out ++ o ≡ w .out → v .confirmed ≡ w .confirmed → v .records ++ r ≡ w .records → v .calls ++ c ≡ w .calls → v .said ++ n ≡ w .said → more v p o r c n ≡ w
+  adds p o r c n e₁ e₂ e₃ e₄ e₅ e₆ i =
+      record { pdus = e₁ i; out = e₂ i; confirmed = e₃ i; records = e₄ i; calls = e₅ i; said = e₆ i }
+
+  no-pdu : v .pdus ++ [] ≡ v .pdus
+  no-pdu = append-nil (v .pdus)
+
+  no-out : v .out ++ [] ≡ v .out
+  no-out = append-nil (v .out)
+
+  no-record : v .records ++ [] ≡ v .records
+  no-record = append-nil (v .records)
+
+  no-call : v .calls ++ [] ≡ v .calls
+  no-call = append-nil (v .calls)
+
+  no-answer : v .said ++ [] ≡ v .said
+  no-answer = append-nil (v .said)
+
+  pub adds-nothing : more v [] [] [] [] [] ≡ v
+  adds-nothing = adds [] [] [] [] [] no-pdu no-out refl no-record no-call no-answer
+
+  pub adds-accepted : (p r : List ℕ) → more v (p ∷ []) [] (r ∷ []) [] [] ≡ accepting p r
+  adds-accepted p r = adds (p ∷ []) [] (r ∷ []) [] [] refl no-out refl refl no-call no-answer
+
+  pub adds-written : (r : List ℕ) → more v [] [] (r ∷ []) [] [] ≡ writing r
+  adds-written r = adds [] [] (r ∷ []) [] [] no-pdu no-out refl refl no-call no-answer
+
+  pub adds-delivered : (p r : List ℕ) (c : StationCall) (n : ℕ) → more v [] (p ∷ []) (r ∷ []) (c ∷ []) (n ∷ []) ≡ delivering p r c n
+  adds-delivered p r c n = adds [] (p ∷ []) (r ∷ []) (c ∷ []) (n ∷ []) no-pdu refl refl refl refl refl
+
   pub adds-timed : (c : StationCall) (n : ℕ) → more v [] [] [] (c ∷ []) (n ∷ []) ≡ timing c n
-  adds-timed c n i =
-      record {
-        pdus = append-nil (v .pdus) i;
-        out = append-nil (v .out) i;
-        confirmed = v .confirmed;
-        records = append-nil (v .records) i;
-        calls = v .calls ++ (c ∷ []);
-        said = v .said ++ (n ∷ []);
-      }
+  adds-timed c n = adds [] [] [] (c ∷ []) (n ∷ []) no-pdu no-out refl no-record refl refl
 
 -- the station after one more call, and its answers
 pub after-more : (s : Station) (cs : List StationCall) (c : StationCall) → after s (cs ++ (c ∷ [])) ≡ called (after s cs) c .station

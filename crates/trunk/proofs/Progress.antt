@@ -3,19 +3,17 @@
 -- a reply.
 -- Assumes nothing.
 use Prim.Native.Nat.{ℕ, _+_, _≤_, _<_, max}
-use mathlib.Core.Path.{_≡_, refl, sym, ap, ap₂, subst, _∙_}
-use mathlib.Core.Logic.{_⊎_, inl, inr}
-use mathlib.Core.List.{List, [], _∷_, _++_}
+use mathlib.Core.Path.{_≡_, refl, sym, ap, subst, _∙_}
+use mathlib.Core.Logic.{inl, inr}
+use mathlib.Core.List.{List, [], _∷_}
 use lib.ListN.{length, getD, take, drop}
 use native.Mathlib.Omega.{arith}
 use Rattle.wire.specs.Bytes.{Bytes}
 use Rattle.wire.specs.First.{first}
-use Rattle.pdu.specs.Reading.{reading}
-use Rattle.pdu.specs.Numbers.{mostWords}
 use Rattle.station.specs.declared.Station.{Station}
-use Rattle.trunk.specs.Kinds.{headSize, recordSize, kindOf, transmitterKind}
+use Rattle.trunk.specs.Kinds.{headSize, recordSize}
 use Rattle.trunk.specs.Record.{replyOf, numberIn}
-use Rattle.trunk.specs.Near.{rowSize, rowKind, sendRules, sent, sentOut, replied}
+use Rattle.trunk.specs.Near.{rowSize, rowKind, sent, sentOut, replied}
 use Rattle.trunk.specs.Far.{leastOutput, arrivalRules, arrived, replyAfter, outputAfter}
 use Rattle.trunk.specs.Line.{record-heard, writtenBy}
 use Rattle.trunk.specs.Plain.{KnownKind}
@@ -23,7 +21,7 @@ use Rattle.trunk.specs.declared.Near.{Near}
 use Rattle.trunk.specs.declared.Far.{Far}
 use Rattle.trunk.specs.declared.Sent.the-variants.{Size}
 use Rattle.trunk.specs.declared.Arrived.{Arrived}
-use Rattle.trunk.proofs.RecordLaws.{PduKind, carried-kind, recordFor, pdu-number, pdu-sound, reply-sound, reply-written}
+use Rattle.trunk.proofs.RecordLaws.{PduKind, carried-kind, pdu-number, pdu-sound, reply-sound, reply-written}
 use Rattle.trunk.proofs.RuleLaws.{send-verdict, arrival-verdict, arrival-passes, reply-passes}
 use Rattle.trunk.proofs.CallLaws.{sends, acknowledges, ArrivalOutcome, arrival-refused, arrival-delivered, arrival-repeat, arrival-early, arrival-outcome}
 use Rattle.trunk.proofs.LogLaws.{Seen}
@@ -36,14 +34,14 @@ module _ (station : Station) (near : Near) (store : List ℕ) (far : Far) (v : S
   -- a number that is held is sent, where there is room for a row
   pub sent-next : (i : ℕ) (out : List ℕ) → v .confirmed ≤ i → i < length (v .pdus) → rowSize ≤ length out → (sent near store i (length out) ≡ Size (recordSize (rowKind store i))) × (take (recordSize (rowKind store i)) (sentOut near store i out) ≡ recordIn (v .pdus) i)
   sent-next i out held l room =
-      let kind = carried-kind (getD (v .pdus) i []) (h .carried i l .kind) .kind in
+      let kind = carried-kind (getD (v .pdus) i []) (h .held .carried i l .kind) .kind in
       let same = held-kind station near store far v h i held l in
       let fits : recordSize (rowKind store i) ≤ length out = omega (arith, held-size station near store far v h i held l, record-fits station near store far v h i l) in
       let passes =
       send-verdict near store i (length out) .none .1 (
-        h .whole (omega arith),
+        h .held .whole (omega arith),
         (
-          (omega (arith, h .near-acknowledged), omega (arith, h .near-accepted)),
+          (omega (arith, h .counts .near-acknowledged), omega (arith, h .counts .near-accepted)),
           (subst KnownKind (sym same) (known-kind _ kind), ((λ e. kind .no-reply (sym same ∙ e)), (fits, tt))),
         ),
       ) in
@@ -66,12 +64,12 @@ module _ (station : Station) (near : Near) (store : List ℕ) (far : Far) (v : S
       bytes = known-bytes station near store far v h (recordIn (v .pdus) i) (pdu-record i l refl)
 
       number : numberIn (recordIn (v .pdus) i) ≡ i
-      number = pdu-number i (getD (v .pdus) i []) (h .carried i l) (small station near store far v h i l)
+      number = pdu-number i (getD (v .pdus) i []) (h .held .carried i l) (small station near store far v h i l)
 
       passes : first (arrivalRules (recordIn (v .pdus) i) (length reply) (length out)) ≡ 0
       passes =
           arrival-passes (recordIn (v .pdus) i) (length reply) (length out)
-          (pdu-sound i (getD (v .pdus) i []) (h .carried i l) (small station near store far v h i l))
+          (pdu-sound i (getD (v .pdus) i []) (h .held .carried i l) (small station near store far v h i l))
           fits
           room
 
@@ -85,7 +83,7 @@ module _ (station : Station) (near : Near) (store : List ℕ) (far : Far) (v : S
             number = far .count + 1;
             above = omega (arith, e, number);
             accepted = omega (arith, e, number);
-            at-count = λ same. ap (λ (n : ℕ). n + 1) (h .far-count);
+            at-count = λ same. ap (λ (n : ℕ). n + 1) (h .counts .far-count);
             reply-is = reply-is;
             written = ap (λ (x : List ℕ). x ∷ []) reply-is;
           }
@@ -94,18 +92,18 @@ module _ (station : Station) (near : Near) (store : List ℕ) (far : Far) (v : S
           record {
             number = far .count;
             above = omega (arith, e, number);
-            accepted = omega (arith, h .far-count, h .put-out-accepted);
-            at-count = λ same. absurd (omega (arith, e, number, h .far-count));
+            accepted = omega (arith, h .counts .far-count, h .counts .put-out-accepted);
+            at-count = λ same. absurd (omega (arith, e, number, h .counts .far-count));
             reply-is = reply-is;
             written = ap (λ (x : List ℕ). x ∷ []) reply-is;
           }
-      by (arrival-early m e) = absurd (omega (arith, e, number, h .far-count))
+      by (arrival-early m e) = absurd (omega (arith, e, number, h .counts .far-count))
 
   -- a reply up to the accepted count, and not below the acknowledged one
   pub acknowledged-next : (n : ℕ) → v .confirmed ≤ n → n ≤ length (v .pdus) → replied near (replyOf n) .near .acknowledged ≡ n
   acknowledged-next n low high =
-      let sound = reply-sound n (omega (arith, h .few)) in
-      acknowledges near (replyOf n) (reply-passes near (replyOf n) n sound (omega (arith, h .near-accepted)))
+      let sound = reply-sound n (omega (arith, h .counts .few)) in
+      acknowledges near (replyOf n) (reply-passes near (replyOf n) n sound (omega (arith, h .counts .near-accepted)))
       ∙ larger station near store far v h (numberIn (replyOf n))
       ∙ ap (max (v .confirmed)) (sound .number-is)
       ∙ omega arith

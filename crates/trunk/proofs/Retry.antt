@@ -2,7 +2,7 @@
 -- reply is handed back. From every line that a fair list of calls reached, whatever was lost before, at most eight such rounds leave nothing
 -- unacknowledged, so that everything accepted is put out. Each round raises the acknowledged count, by what the invariant makes sure of.
 -- Assumes nothing.
-use Prim.Native.Nat.{ℕ, zero, suc, _+_, _-_, _≤_, _<_}
+use Prim.Native.Nat.{ℕ, zero, suc, _+_, _≤_, _<_}
 use mathlib.Core.Path.{_≡_, refl, sym, ap, subst, _∙_}
 use mathlib.Core.Bool.{Bool, true, false, cond}
 use mathlib.Core.List.{List, [], _∷_, _++_, append-nil, List·Memᴰ, List·Memᴰ·head, Memᴰ·append-right}
@@ -13,17 +13,15 @@ use borrow.Author.Tests.{ltb-true, ltb-false}
 use native.Mathlib.Omega.{arith}
 use Rattle.station.specs.Units.{made}
 use Rattle.station.specs.declared.Station.{Station}
-use Rattle.trunk.specs.Kinds.{headSize, recordSize}
-use Rattle.trunk.specs.Record.{replyOf}
-use Rattle.trunk.specs.Near.{rows, rowSize, rowKind, sent, sentOut, replied}
-use Rattle.trunk.specs.Far.{leastOutput, arrived, replyAfter, outputAfter}
-use Rattle.trunk.specs.Line.{send-made, record-heard, Call, send, to-near, to-far, Line, start, step, run, accepted, putOut, acknowledged, written, writtenBy, Allowed, Fair}
+use Rattle.trunk.specs.Kinds.{headSize}
+use Rattle.trunk.specs.Near.{rows, rowSize, sentOut, replied}
+use Rattle.trunk.specs.Far.{leastOutput, replyAfter}
+use Rattle.trunk.specs.Line.{send-made, Call, send, to-near, to-far, Line, start, step, run, accepted, putOut, acknowledged, written, writtenBy, Fair}
 use Rattle.trunk.specs.Demand.{recordAt, count}
 use Rattle.trunk.specs.declared.Sent.{Sent}
 use Rattle.trunk.specs.declared.Sent.the-variants.{Size}
 use Rattle.trunk.proofs.LogLaws.{seen}
-use Rattle.trunk.proofs.Invariant.{Holds}
-use Rattle.trunk.proofs.Progress.{sent-next, Replied, replied-next, acknowledged-next}
+use Rattle.trunk.proofs.Progress.{sent-next, replied-next, acknowledged-next}
 use Rattle.trunk.proofs.Demand3.{StandsAt, run-stands, start-stands}
 
 -- one round: send the lowest number held, hand over its record, hand back the reply
@@ -65,9 +63,9 @@ module _ (buffer reply out : List ℕ) (long : rowSize ≤ length buffer) (fits 
   one-round station l s more =
       let h = s .holds in
       let a : ℕ = l .near .acknowledged in
-      let low : acknowledged (l .log) ≤ a = omega (arith, h .near-acknowledged) in
-      let below : a < length (accepted (l .log)) = omega (arith, h .near-accepted) in
-      let up-to : a ≤ count (l .log) = omega (arith, h .near-acknowledged, h .acknowledged-put-out) in
+      let low : acknowledged (l .log) ≤ a = omega (arith, h .counts .near-acknowledged) in
+      let below : a < length (accepted (l .log)) = omega (arith, h .counts .near-accepted) in
+      let up-to : a ≤ count (l .log) = omega (arith, h .counts .near-acknowledged, h .counts .acknowledged-put-out) in
       let sending = sent-next station (l .near) (l .store) (l .far) (seen (l .log)) h a buffer low below long in
       let answer = replied-next station (l .near) (l .store) (l .far) (seen (l .log)) h a reply out below up-to fits room in
       let acknowledging =
@@ -91,13 +89,13 @@ module _ (buffer reply out : List ℕ) (long : rowSize ≤ length buffer) (fits 
   all-out : (station : Station) (l l′ : Line) → StandsAt station l′ → accepted (l′ .log) ≡ accepted (l .log) → l′ .near .acknowledged ≡ length (accepted (l .log)) → putOut (l′ .log) ≡ accepted (l .log)
   all-out station l l′ s same all =
       let h = s .holds in
-      h .in-order ∙ take-all (count (l′ .log)) (accepted (l′ .log)) (omega (arith, ap length same, h .near-acknowledged, h .acknowledged-put-out)) ∙ same
+      h .in-order ∙ take-all (count (l′ .log)) (accepted (l′ .log)) (omega (arith, ap length same, h .counts .near-acknowledged, h .counts .acknowledged-put-out)) ∙ same
 
   -- nothing is held
   at-rest : (station : Station) (l : Line) → StandsAt station l → l .near .accepted ≤ l .near .acknowledged → Through l []
   at-rest station l s none =
       let h = s .holds in
-      let all : l .near .acknowledged ≡ length (accepted (l .log)) = omega (arith, h .near-accepted, h .near-acknowledged, h .acknowledged-put-out, h .put-out-accepted) in
+      let all : l .near .acknowledged ≡ length (accepted (l .log)) = omega (arith, h .counts .near-accepted, h .counts .near-acknowledged, h .counts .acknowledged-put-out, h .counts .put-out-accepted) in
       record { fair = tt; same = refl; all-acknowledged = all; all-put-out = all-out station l l s refl all }
 
   -- a round, and the rest after it
@@ -105,7 +103,7 @@ module _ (buffer reply out : List ℕ) (long : rowSize ≤ length buffer) (fits 
   then station l n s few more rest =
       let r = one-round station l s more in
       let s′ = run-stands station l (round l buffer reply out) (r .fair) s in
-      let count : run l (round l buffer reply out) .near .accepted ≡ l .near .accepted = s′ .holds .near-accepted ∙ ap length (r .same) ∙ sym (s .holds .near-accepted) in
+      let count : run l (round l buffer reply out) .near .accepted ≡ l .near .accepted = s′ .holds .counts .near-accepted ∙ ap length (r .same) ∙ sym (s .holds .counts .near-accepted) in
       let t = rest s′ (omega (arith, r .further, count)) in
       record {
         fair = (r .fair .0, (r .fair .1 .0, (r .fair .1 .1 .0, t .fair)));
@@ -133,4 +131,4 @@ retries level net store calls fair buffer reply out long fits room =
     let s = run-stands station (start station store) calls fair (start-stands station store) in
     let h = s .holds in
     through buffer reply out long fits room rows station (run (start station store) calls) s
-    (omega (arith, h .near-accepted, h .near-acknowledged, h .window))
+    (omega (arith, h .counts .near-accepted, h .counts .near-acknowledged, h .counts .window))
