@@ -1,6 +1,6 @@
--- What each call gives back, one law for each (`offer-outcome` and the like): refused, by the number of the first plain rule that does not
--- hold, with nothing changed; or taken, every rule met, with the change that document 01 names. From it, each answer is given exactly where
--- its plain statement holds (`offer-exactly-when` and the like). By the verdicts of the rules.
+-- What each call gives back, one law for each (`offer-outcome`, `send-outcome`, `reply-outcome`, `arrival-outcome`): refused, by the number of the
+-- first plain rule that does not hold, with nothing changed; or taken, every rule met, with the change that document 01 names. By the verdicts
+-- of the rules.
 -- Assumes nothing.
 use Prim.Native.Nat.{ℕ, _+_, _≤_, _<_, max}
 use mathlib.Core.Path.{_≡_, refl}

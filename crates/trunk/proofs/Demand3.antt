@@ -36,7 +36,7 @@ pub record Stands (station : Station) (near : Near) (store : List ℕ) (far : Fa
   pub holds : Holds station near store far (seen log)
   pub all-say : AllSay log
 
-module _ (station : Station) (near : Near) (store : List ℕ) (far : Far) (log : List Entry) (s : Stands station near store far log) where
+module _ {station : Station} {near : Near} {store : List ℕ} {far : Far} {log : List Entry} (s : Stands station near store far log) where
   -- an entry, with what it says
   also : {near′ : Near} {store′ : List ℕ} {far′ : Far} {v : Seen} (e : Entry) → seen (e ∷ log) ≡ v → Holds station near′ store′ far′ v → Says e log → Stands station near′ store′ far′ (e ∷ log)
   also {near′} {store′} {far′} e same holds says =
@@ -45,7 +45,7 @@ module _ (station : Station) (near : Near) (store : List ℕ) (far : Far) (log :
   after-offer : (d : List ℕ) → Bytes d → {o : Offered} {store′ : List ℕ} → OfferOutcome near store d o store′ → Stands station (o .near) store′ far (offer-made d (o .answer) ∷ log)
   after-offer d b (offer-refused n f) = also _ (adds-nothing (seen log)) (s .holds) tt
   after-offer d b (offer-taken m) =
-      also _ (adds-accepted (seen log) (writtenForm d) (offerRecord near d)) (offer-keeps station near store far (seen log) (s .holds) d b m) (s .holds .counts .near-accepted)
+      also _ (adds-accepted (seen log) (writtenForm d) (offerRecord near d)) (offer-keeps (s .holds) d b m) (s .holds .counts .near-accepted)
 
   after-send : (i : ℕ) (out : List ℕ) {a : Sent} {out′ : List ℕ} → SendOutcome near store i out a out′ → Stands station near store far (send-made i a out′ ∷ log)
   after-send i out (send-refused n f) = also _ (adds-nothing (seen log)) (s .holds) tt
@@ -53,37 +53,37 @@ module _ (station : Station) (near : Near) (store : List ℕ) (far : Far) (log :
       let h = s .holds in
       let held : acknowledged log ≤ i = omega (arith, m .1 .0 .0, h .counts .near-acknowledged) in
       let below : i < length (accepted log) = omega (arith, m .1 .0 .1, h .counts .near-accepted) in
-      let record-is = held-written station near store far (seen log) h i held below (drop (recordSize (rowKind store i)) out) in
+      let record-is = held-written h i held below (drop (recordSize (rowKind store i)) out) in
       also _
       (adds-written (seen log) _ ∙ ap (writing (seen log)) record-is)
-      (send-keeps station near store far (seen log) h i held below)
-      (below, record-is, held-size station near store far (seen log) h i held below)
+      (send-keeps h i held below)
+      (below, record-is, held-size h i held below)
 
   after-reply : (r : List ℕ) → List·Memᴰ r (written log) → {o : Replied} → ReplyOutcome near r o → Stands station (o .near) store far (reply-heard r (o .answer) ∷ log)
   after-reply r w (reply-refused n f) = also _ (adds-nothing (seen log)) (s .holds) tt
   after-reply r w (reply-taken m) =
       also _
       (adds-nothing (confirming (seen log) (max (acknowledged log) (numberIn r))))
-      (reply-keeps station near store far (seen log) (s .holds) r (s .holds .known r w) m)
-      (larger station near store far (seen log) (s .holds) (numberIn r))
+      (reply-keeps (s .holds) r (s .holds .known r w) m)
+      (larger (s .holds) (numberIn r))
 
   -- a reply with the count as it stands
   replied-again : (reply : List ℕ) → take headSize (replyOf (far .count) ++ drop headSize reply) ≡ replyOf (far .count)
   replied-again reply = reply-written (far .count) (drop headSize reply)
 
   again : Holds station near store far (writing (seen log) (replyOf (far .count)))
-  again = writes station near store far (seen log) (s .holds) (replyOf (far .count)) (reply-record (far .count) (omega (arith, s .holds .counts .far-count)) refl)
+  again = writes (s .holds) (replyOf (far .count)) (reply-record (far .count) (omega (arith, s .holds .counts .far-count)) refl)
 
   after-arrival : (r reply out : List ℕ) → List·Memᴰ r (written log) → {o : Arrived} {reply′ out′ : List ℕ} → ArrivalOutcome far r reply out o reply′ out′ → Stands station near store (o .far) (record-heard r (o .answer) reply′ out′ ∷ log)
   after-arrival r reply out w (arrival-refused n f) = also _ (adds-nothing (seen log)) (s .holds) tt
   after-arrival r reply out w (arrival-delivered m e) =
-      let this = arriving station near store far (seen log) (s .holds) r (s .holds .known r w) (m .1 .1 .0) in
+      let this = arriving (s .holds) r (s .holds .known r w) (m .1 .1 .0) in
       let number : numberIn r ≡ count log = e ∙ s .holds .counts .far-count in
       let pdu = take-at (carriedIn r) (drop (length (carriedIn r)) out) (length (carriedIn r)) refl in
       let answered = reply-written (far .count + 1) (drop headSize reply) in
       also _
       (adds-delivered (seen log) _ _ _ _ ∙ ap₂ (λ (p q : List ℕ). delivering (seen log) p q (datagram p) (heard (far .station) (carriedIn r) .answer)) pdu answered)
-      (delivery-keeps station near store far (seen log) (s .holds) r this e)
+      (delivery-keeps (s .holds) r this e)
       (ap length (this .pdu ∙ ap (pduAt log) number), answered ∙ ap (λ (n : ℕ). replyOf (n + 1)) (s .holds .counts .far-count))
   after-arrival r reply out w (arrival-repeat m l) =
       also _ (adds-written (seen log) _ ∙ ap (writing (seen log)) (replied-again reply)) again (replied-again reply ∙ ap replyOf (s .holds .counts .far-count))
@@ -92,25 +92,25 @@ module _ (station : Station) (near : Near) (store : List ℕ) (far : Far) (log :
 
   after-clock : (t : ℕ) → Stands station near store (ticked far t .far) (clock-set t (ticked far t .answer) ∷ log)
   unfolding ticked
-  after-clock t = also _ (adds-timed (seen log) (time t) _) (clock-keeps station near store far (seen log) (s .holds) t) tt
+  after-clock t = also _ (adds-timed (seen log) (time t) _) (clock-keeps (s .holds) t) tt
 
 -- ---- a list of calls
 
 abbrev pub StandsAt : Station → Line → Type 0
 StandsAt station l = Stands station (l .near) (l .store) (l .far) (l .log)
 
-pub step-stands : (station : Station) (l : Line) (c : Call) → Allowed (l .log) c → StandsAt station l → StandsAt station (step l c)
-step-stands station l (offer d) b s = after-offer station (l .near) (l .store) (l .far) (l .log) s d b (offer-outcome (l .near) (l .store) d)
-step-stands station l (send i out) f s = after-send station (l .near) (l .store) (l .far) (l .log) s i out (send-outcome (l .near) (l .store) i out)
-step-stands station l (to-near r) w s = after-reply station (l .near) (l .store) (l .far) (l .log) s r w (reply-outcome (l .near) r)
-step-stands station l (to-far r reply out) w s =
-    after-arrival station (l .near) (l .store) (l .far) (l .log) s r reply out w
-    (arrival-outcome (l .far) r reply out (known-bytes station (l .near) (l .store) (l .far) (seen (l .log)) (s .holds) r (s .holds .known r w)))
-step-stands station l (tick t) f s = after-clock station (l .near) (l .store) (l .far) (l .log) s t
+pub step-stands : {station : Station} (l : Line) (c : Call) → Allowed (l .log) c → StandsAt station l → StandsAt station (step l c)
+step-stands l (offer d) b s = after-offer s d b (offer-outcome (l .near) (l .store) d)
+step-stands l (send i out) f s = after-send s i out (send-outcome (l .near) (l .store) i out)
+step-stands l (to-near r) w s = after-reply s r w (reply-outcome (l .near) r)
+step-stands l (to-far r reply out) w s =
+    after-arrival s r reply out w
+    (arrival-outcome (l .far) r reply out (known-bytes (s .holds) r (s .holds .known r w)))
+step-stands l (tick t) f s = after-clock s t
 
-pub run-stands : (station : Station) (l : Line) (calls : List Call) → Fair l calls → StandsAt station l → StandsAt station (run l calls)
-run-stands station l [] f s = s
-run-stands station l (c ∷ cs) f s = run-stands station (step l c) cs (f .1) (step-stands station l c (f .0) s)
+pub run-stands : {station : Station} (l : Line) (calls : List Call) → Fair l calls → StandsAt station l → StandsAt station (run l calls)
+run-stands l [] f s = s
+run-stands l (c ∷ cs) f s = run-stands (step l c) cs (f .1) (step-stands l c (f .0) s)
 
 pub start-stands : (station : Station) (store : List ℕ) → StandsAt station (start station store)
 start-stands station store =
@@ -137,8 +137,8 @@ start-stands station store =
 
 -- ---- demand 3
 
-pub stands-demand : (station : Station) (l : Line) → StandsAt station l → Demand3 station l
-stands-demand station l s =
+pub stands-demand : {station : Station} (l : Line) → StandsAt station l → Demand3 station l
+stands-demand l s =
     let h = s .holds in
     record {
       in-order = h .in-order;
@@ -153,9 +153,9 @@ stands-demand station l s =
       all-say = s .all-say;
       next = λ more reply out fits room.
           let k : ℕ = count (l .log) in
-          let answer = replied-next station (l .near) (l .store) (l .far) (seen (l .log)) h k reply out more (omega arith) fits room in
+          let answer = replied-next h k reply out more (omega arith) fits room in
           ap (λ (r : List ℕ). replied (l .near) r .near .acknowledged) (answer .reply-is)
-          ∙ acknowledged-next station (l .near) (l .store) (l .far) (seen (l .log)) h (answer .number) (omega (arith, h .counts .acknowledged-put-out, answer .above)) (answer .accepted)
+          ∙ acknowledged-next h (answer .number) (omega (arith, h .counts .acknowledged-put-out, answer .above)) (answer .accepted)
           ∙ answer .at-count refl;
     }
 
@@ -163,5 +163,4 @@ stands-demand station l s =
 pub demand3 : (level net : ℕ) (store : List ℕ) (calls : List Call) → Fair (start (made level net .station) store) calls → Demand3 (made level net .station) (run (start (made level net .station) store) calls)
 demand3 level net store calls fair =
     let station : Station = made level net .station in
-    stands-demand station (run (start station store) calls)
-    (run-stands station (start station store) calls fair (start-stands station store))
+    stands-demand (run (start station store) calls) (run-stands (start station store) calls fair (start-stands station store))

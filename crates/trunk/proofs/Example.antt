@@ -1,5 +1,6 @@
--- One list of calls, computed: it is fair, and each call answers as its line says. A station on the far side is told of a unit, enters the net
--- and passes an order, while one record comes early, one is repeated, one is lost, two replies are lost, and four calls are refused.
+-- One list of calls, computed: it is fair, and each call answers as its line says. Four PDUs are accepted; a record comes early, one is handed
+-- over twice, one is lost, replies are lost or come late, and calls at both ends are refused. So demand 3's premise can be met, and it speaks of
+-- lists in which something happens.
 -- Assumes nothing.
 use Prim.Native.Nat.{ℕ, zero, suc, _+_, _*_}
 use mathlib.Core.Path.{_≡_, refl, ap₂}
@@ -21,7 +22,7 @@ use Rattle.trunk.specs.Record.{recordOf, replyOf, unknownKind, wrongSize
 use Rattle.trunk.specs.Near.{storeSize, rowSize, offerRules, offered, storeAfter, sendRules, sent, sentOut, replyRules, replied}
 use Rattle.trunk.specs.Far.{leastOutput, arrivalRules, arrived, replyAfter, outputAfter, ticked}
 use Rattle.trunk.specs.Line.{Entry, offer-made, send-made, reply-heard, record-heard, clock-set, Call, offer, send, to-near, to-far, tick, Line, start, step, run, collect, accepted, acknowledged, written, Allowed, Fair}
-use Rattle.trunk.specs.Demand.{count}
+use Rattle.trunk.specs.Demand.{count, Demand3}
 use Rattle.trunk.specs.declared.Offer.{Offer}
 use Rattle.trunk.specs.declared.Offer.the-variants.{Refused as offerRefused, Taken}
 use Rattle.trunk.specs.declared.Sent.{Sent}
@@ -29,6 +30,7 @@ use Rattle.trunk.specs.declared.Sent.the-variants.{Refused as sendRefuse
 use Rattle.trunk.specs.declared.Reply.{Reply}
 use Rattle.trunk.specs.declared.Reply.the-variants.{Refused as replyRefused, Acknowledged}
 use Rattle.trunk.specs.declared.Arrival.the-variants.{Refused as arrivalRefused, Delivered, Repeat, Early}
+use Rattle.trunk.proofs.Demand3.{demand3}
 
 -- ---- a test of fairness
 
@@ -176,21 +178,21 @@ story =
     ∷ (offer ppli, offer-said (Taken 2))
     ∷ (offer order, offer-said (Taken 3))
     ∷ (sending 1, send-said (Size 73))
-    ∷ (arriving record-1, early-said)
-    ∷ (sending 0, send-said (Size 117))
+    ∷ (arriving record-1, early-said)  -- number 1 before number 0; its reply is lost
     ∷ (send 0 (zeros 116), send-said (sendRefused 16))
+    ∷ (sending 0, send-said (Size 117))
     ∷ (arriving record-0, delivered-size 112)
-    ∷ (arriving record-0, repeat-said)
+    ∷ (arriving record-0, repeat-said)  -- the same record again
     ∷ (tick 30, clock-said)
     ∷ (arriving record-1, delivered-size 68)
     ∷ (to-near (replyOf 2), reply-said (Acknowledged 2))
-    ∷ (to-near (replyOf 1), reply-said (Acknowledged 2))
+    ∷ (to-near (replyOf 1), reply-said (Acknowledged 2))  -- a late reply
     ∷ (to-near record-0, reply-said (replyRefused 29))
     ∷ (sending 0, send-said (sendRefused 26))
     ∷ (sending 2, send-said (Size 73))
-    ∷ (to-far record-2 (zeros 4) (zeros 180), refused-at-far 16)
-    ∷ (arriving record-2, delivered-size 68)
-    ∷ (sending 3, send-said (Size 65))
+    ∷ (to-far record-2 (zeros 4) (zeros 180), refused-at-far 16)  -- no room for the reply
+    ∷ (arriving record-2, delivered-size 68)  -- handed over again, with room; its reply is lost
+    ∷ (sending 3, send-said (Size 65))  -- lost: it never arrives
     ∷ (tick 20, clock-said)
     ∷ []
 
@@ -221,13 +223,17 @@ pub record Example : Type 0 where
   pub four-accepted : length (accepted (after-all .log)) ≡ 4
   pub three-put-out : count (after-all .log) ≡ 3
   pub two-acknowledged : acknowledged (after-all .log) ≡ 2
+  pub demand : Demand3 (made 2 0 .station) after-all
 
 pub example : Example
+unfolding before after-all
 example =
+    let fairly = fair-says before (calls-of story) (computed .0) in
     record {
-      fairly = fair-says before (calls-of story) (computed .0);
+      fairly = fairly;
       answered = computed .1;
       four-accepted = computed .2;
       three-put-out = computed .3;
       two-acknowledged = computed .4;
+      demand = demand3 2 0 (replicate storeSize 255) (calls-of story) fairly;
     }

@@ -43,6 +43,11 @@ pub data Known (pdus : List (List ℕ)) (k : ℕ) (r : List ℕ) : Type 0 where
   pdu-record : (i : ℕ) → i < length pdus → r ≡ recordIn pdus i → Known pdus k r
   reply-record : (j : ℕ) → j ≤ k → r ≡ replyOf j → Known pdus k r
 
+-- a record that carries an accepted PDU, by its own number
+pub record Arriving (pdus : List (List ℕ)) (r : List ℕ) : Type 0 where
+  pub accepted : numberIn r < length pdus
+  pub pdu : carriedIn r ≡ getD pdus (numberIn r) []
+
 -- the ends' own counts are those of the log, in their order
 pub record Counts (near : Near) (k accepted confirmed put-out : ℕ) : Type 0 where
   pub near-accepted : near .accepted ≡ accepted
@@ -108,7 +113,7 @@ known-also : (pdus rs : List (List ℕ)) (k : ℕ) (r : List ℕ) → ((x : List
 known-also pdus rs k r old new x m =
     elim (List·Memᴰ·append-cases rs m) [ inl a ↦ old x a | inr b ↦ subst (Known pdus k) (sym (List·Memᴰ·eq-of-singleton b)) new ]
 
-module _ (station : Station) (near : Near) (store : List ℕ) (far : Far) (v : Seen) (h : Holds station near store far v) where
+module _ {station : Station} {near : Near} {store : List ℕ} {far : Far} {v : Seen} (h : Holds station near store far v) where
   pub small : (i : ℕ) → i < length (v .pdus) → i < lastNumber
   small i l = omega (arith, h .counts .few)
 
@@ -270,12 +275,8 @@ module _ (station : Station) (near : Near) (store : List ℕ) (far : Far) (v : S
   known-bytes r (pdu-record i l e) = subst Bytes (sym e) (record-bytes _ i (getD (v .pdus) i []) (h .held .carried i l .bytes))
   known-bytes r (reply-record j l e) = subst Bytes (sym e) (record-bytes replyKind j [] (λ i. omega arith))
 
-  -- what is written and is no reply is the record of a PDU, with that PDU's number
-  pub record Arriving (r : List ℕ) : Type 0 where
-    pub accepted : numberIn r < length (v .pdus)
-    pub pdu : carriedIn r ≡ getD (v .pdus) (numberIn r) []
-
-  pub arriving : (r : List ℕ) → Known (v .pdus) (length (v .out)) r → kindIn r ≢ replyKind → Arriving r
+  -- what is written and is no reply is the record of a PDU
+  pub arriving : (r : List ℕ) → Known (v .pdus) (length (v .out)) r → kindIn r ≢ replyKind → Arriving (v .pdus) r
   arriving r (pdu-record i l e) other =
       let p : List ℕ = getD (v .pdus) i [] in
       let number : numberIn r ≡ i = ap numberIn e ∙ pdu-number i p (h .held .carried i l) (small i l) in
@@ -298,7 +299,7 @@ module _ (station : Station) (near : Near) (store : List ℕ) (far : Far) (v : S
       }
 
   -- number k, delivered
-  pub delivery-keeps : (r : List ℕ) → Arriving r → numberIn r ≡ far .count → Holds station near store (delivered far r .far) (delivering v (carriedIn r) (replyOf (far .count + 1)) (datagram (carriedIn r)) (heard (far .station) (carriedIn r) .answer))
+  pub delivery-keeps : (r : List ℕ) → Arriving (v .pdus) r → numberIn r ≡ far .count → Holds station near store (delivered far r .far) (delivering v (carriedIn r) (replyOf (far .count + 1)) (datagram (carriedIn r)) (heard (far .station) (carriedIn r) .answer))
   delivery-keeps r a e =
       let c = h .counts in
       let k : ℕ = length (v .out) in

@@ -30,13 +30,22 @@ use Rattle.trunk.proofs.Invariant.{recordIn, pdu-record, Holds, small, 
 known-kind : (kind : ℕ) → PduKind kind → KnownKind kind
 known-kind kind k = elim (k .listed) [ inl few ↦ inl few | inr same ↦ inr (inl same) ]
 
-module _ (station : Station) (near : Near) (store : List ℕ) (far : Far) (v : Seen) (h : Holds station near store far v) where
+-- the reply to record i, where i is accepted and not above k: its number, which is above i, and k + 1 where i is k
+pub record Replied (pdus : List (List ℕ)) (k i : ℕ) (o : Arrived) (reply out : List ℕ) : Type 0 where
+  pub number : ℕ
+  pub above : i < number
+  pub accepted : number ≤ length pdus
+  pub at-count : i ≡ k → number ≡ k + 1
+  pub reply-is : take headSize reply ≡ replyOf number
+  pub written : writtenBy (record-heard (recordIn pdus i) (o .answer) reply out) ≡ replyOf number ∷ []
+
+module _ {station : Station} {near : Near} {store : List ℕ} {far : Far} {v : Seen} (h : Holds station near store far v) where
   -- a number that is held is sent, where there is room for a row
   pub sent-next : (i : ℕ) (out : List ℕ) → v .confirmed ≤ i → i < length (v .pdus) → rowSize ≤ length out → (sent near store i (length out) ≡ Size (recordSize (rowKind store i))) × (take (recordSize (rowKind store i)) (sentOut near store i out) ≡ recordIn (v .pdus) i)
   sent-next i out held l room =
       let kind = carried-kind (getD (v .pdus) i []) (h .held .carried i l .kind) .kind in
-      let same = held-kind station near store far v h i held l in
-      let fits : recordSize (rowKind store i) ≤ length out = omega (arith, held-size station near store far v h i held l, record-fits station near store far v h i l) in
+      let same = held-kind h i held l in
+      let fits : recordSize (rowKind store i) ≤ length out = omega (arith, held-size h i held l, record-fits h i l) in
       let passes =
       send-verdict near store i (length out) .none .1 (
         h .held .whole (omega arith),
@@ -46,34 +55,25 @@ module _ (station : Station) (near : Near) (store : List ℕ) (far : Far) (v : S
         ),
       ) in
       let done = sends near store i out passes in
-      (done .0, ap (take (recordSize (rowKind store i))) (done .1) ∙ held-written station near store far v h i held l (drop (recordSize (rowKind store i)) out))
+      (done .0, ap (take (recordSize (rowKind store i))) (done .1) ∙ held-written h i held l (drop (recordSize (rowKind store i)) out))
 
-  -- the reply to the record of an accepted number that is not above k: its number, which is above that one
-  pub record Replied (i : ℕ) (o : Arrived) (reply out : List ℕ) : Type 0 where
-    pub number : ℕ
-    pub above : i < number
-    pub accepted : number ≤ length (v .pdus)
-    pub at-count : i ≡ length (v .out) → number ≡ length (v .out) + 1
-    pub reply-is : take headSize reply ≡ replyOf number
-    pub written : writtenBy (record-heard (recordIn (v .pdus) i) (o .answer) reply out) ≡ replyOf number ∷ []
-
-  pub replied-next : (i : ℕ) (reply out : List ℕ) → i < length (v .pdus) → i ≤ length (v .out) → headSize ≤ length reply → leastOutput ≤ length out → Replied i (arrived far (recordIn (v .pdus) i) (length reply) (length out)) (replyAfter far (recordIn (v .pdus) i) reply (length out)) (outputAfter far (recordIn (v .pdus) i) (length reply) out)
+  pub replied-next : (i : ℕ) (reply out : List ℕ) → i < length (v .pdus) → i ≤ length (v .out) → headSize ≤ length reply → leastOutput ≤ length out → Replied (v .pdus) (length (v .out)) i (arrived far (recordIn (v .pdus) i) (length reply) (length out)) (replyAfter far (recordIn (v .pdus) i) reply (length out)) (outputAfter far (recordIn (v .pdus) i) (length reply) out)
   replied-next i reply out l up-to fits room = by (arrival-outcome far (recordIn (v .pdus) i) reply out bytes)
     where
       bytes : Bytes (recordIn (v .pdus) i)
-      bytes = known-bytes station near store far v h (recordIn (v .pdus) i) (pdu-record i l refl)
+      bytes = known-bytes h (recordIn (v .pdus) i) (pdu-record i l refl)
 
       number : numberIn (recordIn (v .pdus) i) ≡ i
-      number = pdu-number i (getD (v .pdus) i []) (h .held .carried i l) (small station near store far v h i l)
+      number = pdu-number i (getD (v .pdus) i []) (h .held .carried i l) (small h i l)
 
       passes : first (arrivalRules (recordIn (v .pdus) i) (length reply) (length out)) ≡ 0
       passes =
           arrival-passes (recordIn (v .pdus) i) (length reply) (length out)
-          (pdu-sound i (getD (v .pdus) i []) (h .held .carried i l) (small station near store far v h i l))
+          (pdu-sound i (getD (v .pdus) i []) (h .held .carried i l) (small h i l))
           fits
           room
 
-      by : {o : Arrived} {reply′ out′ : List ℕ} → ArrivalOutcome far (recordIn (v .pdus) i) reply out o reply′ out′ → Replied i o reply′ out′
+      by : {o : Arrived} {reply′ out′ : List ℕ} → ArrivalOutcome far (recordIn (v .pdus) i) reply out o reply′ out′ → Replied (v .pdus) (length (v .out)) i o reply′ out′
       by (arrival-refused n f) =
           let x = arrival-verdict (recordIn (v .pdus) i) bytes (length reply) (length out) .some n .1 f in
           absurd (x .1 (sym (x .0) ∙ passes))
@@ -104,6 +104,6 @@ module _ (station : Station) (near : Near) (store : List ℕ) (far : Far) (v : S
   acknowledged-next n low high =
       let sound = reply-sound n (omega (arith, h .counts .few)) in
       acknowledges near (replyOf n) (reply-passes near (replyOf n) n sound (omega (arith, h .counts .near-accepted)))
-      ∙ larger station near store far v h (numberIn (replyOf n))
+      ∙ larger h (numberIn (replyOf n))
       ∙ ap (max (v .confirmed)) (sound .number-is)
       ∙ omega arith

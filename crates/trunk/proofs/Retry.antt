@@ -20,7 +20,6 @@ use Rattle.trunk.specs.Line.{send-made, Call, send, to-near, to-far, Lin
 use Rattle.trunk.specs.Demand.{recordAt, count}
 use Rattle.trunk.specs.declared.Sent.{Sent}
 use Rattle.trunk.specs.declared.Sent.the-variants.{Size}
-use Rattle.trunk.proofs.LogLaws.{seen}
 use Rattle.trunk.proofs.Progress.{sent-next, replied-next, acknowledged-next}
 use Rattle.trunk.proofs.Demand3.{StandsAt, run-stands, start-stands}
 
@@ -32,12 +31,15 @@ round l buffer reply out =
     ∷ to-near (take headSize (replyAfter (l .far) (recordAt (l .log) (l .near .acknowledged)) reply (length out)))
     ∷ []
 
+abbrev pub afterRound : Line → List ℕ → List ℕ → List ℕ → Line
+afterRound l buffer reply out = run l (round l buffer reply out)
+
 -- at most n rounds, as long as something is held
 unfoldable pub rounds : ℕ → Line → List ℕ → List ℕ → List ℕ → List Call
 rounds zero l buffer reply out = []
 rounds (suc n) l buffer reply out =
     cond (ltb (l .near .acknowledged) (l .near .accepted))
-    (round l buffer reply out ++ rounds n (run l (round l buffer reply out)) buffer reply out)
+    (round l buffer reply out ++ rounds n (afterRound l buffer reply out) buffer reply out)
     []
 
 -- what such calls bring a line to: they are fair, nothing more is accepted, and everything accepted is acknowledged and put out
@@ -47,64 +49,53 @@ pub record Through (l : Line) (calls : List Call) : Type 0 where
   pub all-acknowledged : run l calls .near .acknowledged ≡ length (accepted (l .log))
   pub all-put-out : putOut (run l calls .log) ≡ accepted (l .log)
 
--- ---- one round
+-- what one round brings it to
+record Further (l : Line) (calls : List Call) : Type 0 where
+  fair : Fair l calls
+  same : accepted (run l calls .log) ≡ accepted (l .log)
+  further : l .near .acknowledged < run l calls .near .acknowledged
 
 -- what a send wrote, by the size answered
 just-sent : (i : ℕ) {n : ℕ} {a : Sent} {r : List ℕ} (out : List ℕ) → a ≡ Size n → take n out ≡ r → List·Memᴰ r (writtenBy (send-made i a out))
 just-sent i {r} out e same = subst (λ (x : Sent). List·Memᴰ r (writtenBy (send-made i x out))) (sym e) (List·Memᴰ·head (sym same))
 
-module _ (buffer reply out : List ℕ) (long : rowSize ≤ length buffer) (fits : headSize ≤ length reply) (room : leastOutput ≤ length out) where
-  record Round (l : Line) : Type 0 where
-    fair : Fair l (round l buffer reply out)
-    further : l .near .acknowledged < run l (round l buffer reply out) .near .acknowledged
-    same : accepted (run l (round l buffer reply out) .log) ≡ accepted (l .log)
+-- where nothing is held, everything accepted is acknowledged and put out
+at-rest : {station : Station} (l : Line) → StandsAt station l → l .near .accepted ≤ l .near .acknowledged → Through l []
+at-rest l s none =
+    let h = s .holds in
+    let c = h .counts in
+    record {
+      fair = tt;
+      same = refl;
+      all-acknowledged = omega (arith, c .near-accepted, c .near-acknowledged, c .acknowledged-put-out, c .put-out-accepted);
+      all-put-out = h .in-order ∙ take-all (count (l .log)) (accepted (l .log)) (omega (arith, c .near-accepted, c .near-acknowledged, c .acknowledged-put-out));
+    }
 
-  one-round : (station : Station) (l : Line) → StandsAt station l → l .near .acknowledged < l .near .accepted → Round l
-  one-round station l s more =
+module _ (buffer reply out : List ℕ) (long : rowSize ≤ length buffer) (fits : headSize ≤ length reply) (room : leastOutput ≤ length out) where
+  one-round : {station : Station} (l : Line) → StandsAt station l → l .near .acknowledged < l .near .accepted → Further l (round l buffer reply out)
+  one-round l s more =
       let h = s .holds in
+      let c = h .counts in
       let a : ℕ = l .near .acknowledged in
-      let low : acknowledged (l .log) ≤ a = omega (arith, h .counts .near-acknowledged) in
-      let below : a < length (accepted (l .log)) = omega (arith, h .counts .near-accepted) in
-      let up-to : a ≤ count (l .log) = omega (arith, h .counts .near-acknowledged, h .counts .acknowledged-put-out) in
-      let sending = sent-next station (l .near) (l .store) (l .far) (seen (l .log)) h a buffer low below long in
-      let answer = replied-next station (l .near) (l .store) (l .far) (seen (l .log)) h a reply out below up-to fits room in
+      let low : acknowledged (l .log) ≤ a = omega (arith, c .near-acknowledged) in
+      let below : a < length (accepted (l .log)) = omega (arith, c .near-accepted) in
+      let up-to : a ≤ count (l .log) = omega (arith, c .near-acknowledged, c .acknowledged-put-out) in
+      let sending = sent-next h a buffer low below long in
+      let answer = replied-next h a reply out below up-to fits room in
       let acknowledging =
       ap (λ (r : List ℕ). replied (l .near) r .near .acknowledged) (answer .reply-is)
-      ∙ acknowledged-next station (l .near) (l .store) (l .far) (seen (l .log)) h (answer .number) (omega (arith, answer .above)) (answer .accepted) in
+      ∙ acknowledged-next h (answer .number) (omega (arith, answer .above)) (answer .accepted) in
+      let sent-there = just-sent a (sentOut (l .near) (l .store) a buffer) (sending .0) (sending .1) in
+      let reply-there = subst (List·Memᴰ _) (sym (answer .written)) (List·Memᴰ·head (answer .reply-is)) in
       record {
-        fair = (
-          tt,
-          (
-            Memᴰ·append-right (written (l .log)) (just-sent a (sentOut (l .near) (l .store) a buffer) (sending .0) (sending .1)),
-            (Memᴰ·append-right (written (step l (send a buffer) .log)) (subst (List·Memᴰ _) (sym (answer .written)) (List·Memᴰ·head (answer .reply-is))), tt),
-          ),
-        );
-        further = omega (arith, acknowledging, answer .above);
+        fair = (tt, (Memᴰ·append-right (written (l .log)) sent-there, (Memᴰ·append-right (written (step l (send a buffer) .log)) reply-there, tt)));
         same = append-nil _ ∙ append-nil _ ∙ append-nil (accepted (l .log));
+        further = omega (arith, acknowledging, answer .above);
       }
 
-  -- ---- as many as are needed
-
-  -- what is acknowledged was put out
-  all-out : (station : Station) (l l′ : Line) → StandsAt station l′ → accepted (l′ .log) ≡ accepted (l .log) → l′ .near .acknowledged ≡ length (accepted (l .log)) → putOut (l′ .log) ≡ accepted (l .log)
-  all-out station l l′ s same all =
-      let h = s .holds in
-      h .in-order ∙ take-all (count (l′ .log)) (accepted (l′ .log)) (omega (arith, ap length same, h .counts .near-acknowledged, h .counts .acknowledged-put-out)) ∙ same
-
-  -- nothing is held
-  at-rest : (station : Station) (l : Line) → StandsAt station l → l .near .accepted ≤ l .near .acknowledged → Through l []
-  at-rest station l s none =
-      let h = s .holds in
-      let all : l .near .acknowledged ≡ length (accepted (l .log)) = omega (arith, h .counts .near-accepted, h .counts .near-acknowledged, h .counts .acknowledged-put-out, h .counts .put-out-accepted) in
-      record { fair = tt; same = refl; all-acknowledged = all; all-put-out = all-out station l l s refl all }
-
-  -- a round, and the rest after it
-  then : (station : Station) (l : Line) (n : ℕ) → StandsAt station l → l .near .accepted ≤ l .near .acknowledged + suc n → l .near .acknowledged < l .near .accepted → (StandsAt station (run l (round l buffer reply out)) → run l (round l buffer reply out) .near .accepted ≤ run l (round l buffer reply out) .near .acknowledged + n → Through (run l (round l buffer reply out)) (rounds n (run l (round l buffer reply out)) buffer reply out)) → Through l (round l buffer reply out ++ rounds n (run l (round l buffer reply out)) buffer reply out)
-  then station l n s few more rest =
-      let r = one-round station l s more in
-      let s′ = run-stands station l (round l buffer reply out) (r .fair) s in
-      let count : run l (round l buffer reply out) .near .accepted ≡ l .near .accepted = s′ .holds .counts .near-accepted ∙ ap length (r .same) ∙ sym (s .holds .counts .near-accepted) in
-      let t = rest s′ (omega (arith, r .further, count)) in
+  -- a round, and what the rest brings the line to after it
+  round-then : (l : Line) (calls : List Call) → Further l (round l buffer reply out) → Through (afterRound l buffer reply out) calls → Through l (round l buffer reply out ++ calls)
+  round-then l calls r t =
       record {
         fair = (r .fair .0, (r .fair .1 .0, (r .fair .1 .1 .0, t .fair)));
         same = t .same ∙ r .same;
@@ -112,23 +103,28 @@ module _ (buffer reply out : List ℕ) (long : rowSize ≤ length buffer) (fits 
         all-put-out = t .all-put-out ∙ r .same;
       }
 
-  through : (n : ℕ) (station : Station) (l : Line) → StandsAt station l → l .near .accepted ≤ l .near .acknowledged + n → Through l (rounds n l buffer reply out)
+  -- as many rounds as numbers are held
+  through : {station : Station} (n : ℕ) (l : Line) → StandsAt station l → l .near .accepted ≤ l .near .acknowledged + n → Through l (rounds n l buffer reply out)
   unfolding rounds
-  through zero station l s few = at-rest station l s (omega arith)
-  through (suc n) station l s few = by (through n station (run l (round l buffer reply out))) (ltb (l .near .acknowledged) (l .near .accepted)) refl
+  through zero l s few = at-rest l s (omega arith)
+  through {station} (suc n) l s few = by (through n (afterRound l buffer reply out)) (ltb (l .near .acknowledged) (l .near .accepted)) refl
     where
       l′ : Line
-      l′ = run l (round l buffer reply out)
+      l′ = afterRound l buffer reply out
 
       by : (StandsAt station l′ → l′ .near .accepted ≤ l′ .near .acknowledged + n → Through l′ (rounds n l′ buffer reply out)) → (b : Bool) → ltb (l .near .acknowledged) (l .near .accepted) ≡ b → Through l (cond b (round l buffer reply out ++ rounds n l′ buffer reply out) [])
-      by rest true e = then station l n s few (ltb-true _ _ e) rest
-      by rest false e = at-rest station l s (ltb-false _ _ e)
+      by rest true e =
+          let r = one-round l s (ltb-true _ _ e) in
+          let s′ = run-stands l (round l buffer reply out) (r .fair) s in
+          let still : l′ .near .accepted ≡ l .near .accepted = s′ .holds .counts .near-accepted ∙ ap length (r .same) ∙ sym (s .holds .counts .near-accepted) in
+          round-then l (rounds n l′ buffer reply out) r (rest s′ (omega (arith, r .further, still)))
+      by rest false e = at-rest l s (ltb-false _ _ e)
 
--- from every line that a fair list reached, with lent buffers of any content that have room: eight rounds at most
+-- From every line that a fair list reached, with lent buffers of any content that have room, eight rounds at most leave nothing unacknowledged.
 pub retries : (level net : ℕ) (store : List ℕ) (calls : List Call) → Fair (start (made level net .station) store) calls → (buffer reply out : List ℕ) → rowSize ≤ length buffer → headSize ≤ length reply → leastOutput ≤ length out → Through (run (start (made level net .station) store) calls) (rounds rows (run (start (made level net .station) store) calls) buffer reply out)
 retries level net store calls fair buffer reply out long fits room =
     let station : Station = made level net .station in
-    let s = run-stands station (start station store) calls fair (start-stands station store) in
-    let h = s .holds in
-    through buffer reply out long fits room rows station (run (start station store) calls) s
-    (omega (arith, h .counts .near-accepted, h .counts .near-acknowledged, h .counts .window))
+    let s = run-stands (start station store) calls fair (start-stands station store) in
+    let c = s .holds .counts in
+    through buffer reply out long fits room rows (run (start station store) calls) s
+    (omega (arith, c .near-accepted, c .near-acknowledged, c .window))
