@@ -69,6 +69,7 @@ pub record Played (station now : Station) (calls : List StationCall) (said : Lis
   pub stands : now ≡ after station calls
   pub answered : said ≡ answers station calls
 
+-- all of it, for the station that the far end started with, and what was written and put out
 pub record Holds (station : Station) (near : Near) (store : List ℕ) (far : Far) (v : Seen) : Type 0 where
   pub counts : Counts near (far .count) (length (v .pdus)) (v .confirmed) (length (v .out))
   pub held : Held store (v .pdus) (v .confirmed)
@@ -114,6 +115,7 @@ known-also pdus rs k r old new x m =
     elim (List·Memᴰ·append-cases rs m) [ inl a ↦ old x a | inr b ↦ subst (Known pdus k) (sym (List·Memᴰ·eq-of-singleton b)) new ]
 
 module _ {station : Station} {near : Near} {store : List ℕ} {far : Far} {v : Seen} (h : Holds station near store far v) where
+  -- an accepted number is not the last of all
   pub small : (i : ℕ) → i < length (v .pdus) → i < lastNumber
   small i l = omega (arith, h .counts .few)
 
@@ -137,6 +139,7 @@ module _ {station : Station} {near : Near} {store : List ℕ} {far : Far} {v : S
 
   -- ---- an offer
 
+  -- of the rules met, in order: 28 is m .0, the reader's m .1 .0, 23 m .1 .1 .0, 25 m .1 .1 .1 .0, and 24 m .1 .1 .1 .1 .0
   module _ (d : List ℕ) (b : Bytes d) (m : Met (plainOffer near store d)) where
     form : Carried (writtenForm d) × (reading (writtenForm d) ≡ reading d)
     form = carried-form d b (eqb-false _ _ (type-says d (m .1 .0) .1 (m .1 .1 .0)))

@@ -9,5 +9,5 @@ pub mod Invariant
 pub mod Progress
 pub mod Demand3
 pub mod Consequences
-pub mod Example
 pub mod Retry
+pub mod Example
