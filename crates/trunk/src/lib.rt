@@ -2,6 +2,10 @@
 // Only the promises of reading, writing and the station's step are used from below.
 use station::Station;
 
+pub mod far_end;
+pub mod near_end;
+pub mod records;
+
 // The near end: how many PDUs were accepted, and how many the far end has acknowledged.
 pub struct Near {
     pub accepted: u32,
