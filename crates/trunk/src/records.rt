@@ -13,7 +13,7 @@ use crate::Near;
 use pdu::Reading;
 
 const MOST_WORDS: u8 = 12;
-const TRANSMITTER_KIND: u8 = 16;
+pub const TRANSMITTER_KIND: u8 = 16;
 pub(crate) const REPLY_KIND: u8 = 32;
 pub(crate) const NO_KIND: u16 = 256;
 pub(crate) const HEAD_SIZE: usize = 5;
@@ -33,8 +33,8 @@ pub(crate) fn is_unknown(kind: u8) -> bool
     ))
 }
 
-// The length of a record of this kind.
-pub(crate) fn record_size(kind: u8) -> usize
+// The length of a record of this kind; the head alone where the kind is unknown.
+pub fn record_size(kind: u8) -> usize
     ensures { λ r. ⌜ r ≡ recordSize kind ⌝ }
 {
     if kind <= MOST_WORDS {
