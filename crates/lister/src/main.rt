@@ -52,7 +52,7 @@ fn failed() -> bool {
 }
 
 // Prints the line of a record that was taken.
-fn print_taken(index: u64, word: &[u8], number: u32, size: usize) {
+fn print_taken(index: u64, word: &[u8], number: u32, size: u16) {
     io::print_decimal(STDOUT_FILENO, index);
     io::write_all(STDOUT_FILENO, word);
     io::print_decimal(STDOUT_FILENO, number as u64);

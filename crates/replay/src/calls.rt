@@ -13,7 +13,9 @@ use trunk::near_end;
 
 // The longest lent buffer, and the highest number and clock.
 const ROOM: u64 = 4096;
+
 const LAST_NUMBER: u64 = 4294967295;
+
 const LAST_CLOCK: u64 = 18446744073709551615;
 
 // Both ends, the store's length, and how many lines came before.
@@ -259,13 +261,7 @@ fn arrive(
 }
 
 // `far HEX ROOM REPLYROOM`: a record arrives at the far end.
-fn to_far(
-    state: State,
-    words: &[u8],
-    given: &mut [u8],
-    out: &mut [u8],
-    reply: &mut [u8],
-) -> Next {
+fn to_far(state: State, words: &[u8], given: &mut [u8], out: &mut [u8], reply: &mut [u8]) -> Next {
     let Number::Is(n) = text::bytes(text::first_word(words), given) else {
         return bad(state);
     };

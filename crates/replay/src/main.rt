@@ -207,13 +207,7 @@ fn turn(
 }
 
 // Runs the whole input. A proved loop has to end: it counts its turns down from more than any input takes.
-fn run_all(
-    input: &mut [u8],
-    store: &mut [u8],
-    given: &mut [u8],
-    out: &mut [u8],
-    reply: &mut [u8],
-) {
+fn run_all(input: &mut [u8], store: &mut [u8], given: &mut [u8], out: &mut [u8], reply: &mut [u8]) {
     let mut state = calls::start();
     let mut have = 0;
     let mut turns = u64::MAX;

@@ -1,11 +1,11 @@
 // How both ends stand, as the last lines say it.
 use crate::show;
-use trunk::Far;
-use trunk::Near;
 use station::Place;
 use station::State;
 use station::Station;
 use station::Unit;
+use trunk::Far;
+use trunk::Near;
 
 // ` N`
 fn field(n: u64) {

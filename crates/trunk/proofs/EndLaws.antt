@@ -19,7 +19,7 @@ use Rattle.pdu.specs.declared.Reading.{Reading}
 use Rattle.pdu.proofs.ReadingLaws.{neither}
 use Rattle.pdu.proofs.Carried.{taken-words}
 use Rattle.trunk.specs.Kinds.{Load, words, transmitter, nothing, unknown, load, loadSize, recordSize, kindOf, kindOfWords, noKind}
-use Rattle.trunk.specs.Record.{kindIn, numberIn, isReply, lastOfAll}
+use Rattle.trunk.specs.Record.{kindIn, numberIn, isReply, lastOfAll, checkRules}
 use Rattle.trunk.specs.Near.{offerRulesOf, sendRules, rowKind, rowRecord, rowStart}
 use Rattle.trunk.specs.Far.{arrivalRules, noRoom}
 use Rattle.trunk.specs.declared.Near.{Near}
@@ -94,7 +94,7 @@ pub row-copied : (store out : List ℕ) (i : ℕ) → length store ≡ 1536 → 
 row-copied store out i size start room =
     let n = recordSize (rowKind store i) in
     let part : take (rowStart i + n - rowStart i) (drop (rowStart i) store) ≡ rowRecord store i =
-        ap (λ (m : ℕ). take m (drop (rowStart i) store)) (add-sub-cancel-left (rowStart i) n) in
+    ap (λ (m : ℕ). take m (drop (rowStart i) store)) (add-sub-cancel-left (rowStart i) n) in
     let small : n ≤ 185 = record-small (rowKind store i) in
     let long : length (rowRecord store i) ≡ n = simp (length-take, length-drop) (omega arith) in
     ap (λ (b : List ℕ). splice 0 b out) part
@@ -127,3 +127,8 @@ arrival-fits r replyRoom room e =
       output = ltb-false room 180 (space .1);
       number = last-not r (unbroken 2 rules refl e) (unbroken 3 rules refl e);
     }
+
+-- a record that the check takes is at most 185 bytes
+pub checked-short : (r : List ℕ) → first (checkRules r) ≡ 0 → length r ≤ 185
+unfolding checkRules
+checked-short r e = rw (right-size r (unbroken 1 (checkRules r) refl e)) (record-small (kindIn r))

@@ -67,7 +67,7 @@ pub writes-read-signal : (d : List ℕ) (s : Signal) (n : ℕ) (out : List ℕ) 
 writes-read-signal d s n out e fits =
     let size : length (bodyOf d) ≡ n = body-there d s n e .2 in
     let taken : first (signalWriting s (length (bodyOf d)) (length out)) ≡ 0 =
-        subst (λ (m : ℕ). first (signalWriting s m (length out)) ≡ 0) (sym size) (writes-signal d s n (length out) e fits) in
+    subst (λ (m : ℕ). first (signalWriting s m (length out)) ≡ 0) (sym size) (writes-signal d s n (length out) e fits) in
     let long : length (signalBytes s (bodyOf d)) ≡ signalSize n = length-signal s (bodyOf d) ∙ ap signalSize size in
     rw (eq-eqb (first (signalWriting s (length (bodyOf d)) (length out))) 0 taken)
     (sym (splice-start (signalBytes s (bodyOf d)) out (rw long fits))
@@ -82,7 +82,7 @@ carried-short d h = go (reading d) refl
     go (Reading.Transmitter t) e = omega (arith, ap length (transmitter-form d t e), length-transmitter t)
     go (Reading.Signal s n) e =
         let size : length (writtenForm d) ≡ signalSize n =
-            ap length (signal-form d s n e) ∙ length-signal s (bodyOf d) ∙ ap signalSize (body-there d s n e .2) in
+        ap length (signal-form d s n e) ∙ length-signal s (bodyOf d) ∙ ap signalSize (body-there d s n e .2) in
         rw size (carried-size d s n e h)
 
 -- head and PDU, spliced one behind the other, are the record

@@ -71,6 +71,6 @@ pub struct Ticked {
 // What checking a record answers: a refusal; a reply or a PDU record, with its number and the record's size.
 pub enum Checked {
     Refused(u8),
-    Reply { number: u32, size: usize },
-    Pdu { kind: u8, number: u32, size: usize },
+    Reply { number: u32, size: u16 },
+    Pdu { kind: u8, number: u32, size: u16 },
 }

@@ -19,8 +19,11 @@ use crate::records;
 use pdu::Reading;
 
 const ROWS: u32 = 8;
+
 const ROW_SIZE: usize = 192;
+
 const STORE_SIZE: usize = 1536;
+
 const BODY_START: usize = 52;
 
 // Where the row of a number starts.

@@ -5,7 +5,7 @@ ghost use Prim.Native.Nat.{_≤_};
 ghost use lib.ListN.{length};
 ghost use Rattle.wire.specs.First.{first};
 ghost use Rattle.trunk.specs.Kinds.{load, isUnknown, recordSize, kindOf, kindOfWords};
-ghost use Rattle.trunk.specs.Record.{unknownKind, wrongSize, isReply, lastOfAll, wrongCarried, checkRules, checked};
+ghost use Rattle.trunk.specs.Record.{unknownKind, wrongSize, isReply, lastOfAll, wrongCarried, checkRules, checked, numberOfChecked, sizeOfChecked};
 ghost use Rattle.trunk.specs.Near.{replyRules};
 ghost use Rattle.trunk.specs.Far.{arrivalRules};
 use crate::Checked;
@@ -13,14 +13,23 @@ use crate::Near;
 use pdu::Reading;
 
 const MOST_WORDS: u8 = 12;
+
 pub const TRANSMITTER_KIND: u8 = 16;
+
 pub(crate) const REPLY_KIND: u8 = 32;
+
 pub(crate) const NO_KIND: u16 = 256;
+
 pub(crate) const HEAD_SIZE: usize = 5;
+
 pub(crate) const LAST_NUMBER: u32 = 4294967295;
+
 const LEAST_OUTPUT: usize = 180;
+
 const BODY_HEADER: u16 = 6;
+
 const WORD_BYTES: u16 = 10;
+
 const TRANSMITTER_SIZE: usize = 112;
 
 // Whether the table of kinds lacks this one.
@@ -116,10 +125,7 @@ fn wrong_carried(r: &[u8]) -> bool
     }
     let kind = wire::u8_at(r, 0) as u16;
     let pdu = &r[HEAD_SIZE..];
-    wire::no(wire::both(
-        pdu::is_written(pdu),
-        kind_of(pdu::read(pdu)) == kind,
-    ))
+    wire::no(wire::both(pdu::is_written(pdu), kind_of(pdu::read(pdu)) == kind))
 }
 
 // The number of the first broken rule of a check, or 0.
@@ -197,13 +203,43 @@ pub fn check(received: &[u8]) -> Checked
     if is_reply(received) {
         Checked::Reply {
             number,
-            size: received.len(),
+            size: received.len() as u16,
         }
     } else {
         Checked::Pdu {
             kind: wire::u8_at(received, 0),
             number,
-            size: received.len(),
+            size: received.len() as u16,
         }
+    }
+}
+
+// Document 01's number of what a check answered: 0 where the record is taken.
+pub fn number(c: Checked) -> u8
+    ensures { λ n. ⌜ n ≡ numberOfChecked c ⌝ }
+{
+    match c {
+        Checked::Refused(n) => n,
+        Checked::Reply { number: _, size: _ } => 0,
+        Checked::Pdu {
+            kind: _,
+            number: _,
+            size: _,
+        } => 0,
+    }
+}
+
+// The size of the record that a check took: 0 where it is refused.
+pub fn size(c: Checked) -> u16
+    ensures { λ n. ⌜ n ≡ sizeOfChecked c ⌝ }
+{
+    match c {
+        Checked::Refused(_) => 0,
+        Checked::Reply { number: _, size } => size,
+        Checked::Pdu {
+            kind: _,
+            number: _,
+            size,
+        } => size,
     }
 }

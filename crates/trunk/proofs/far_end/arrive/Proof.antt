@@ -33,7 +33,7 @@ arrival-refusal-requires c κs = search needs
 -- src/far_end.rt:32:9
 returns : tie.Need-returns
 unfolding arrived replyAfter outputAfter
-returns c = 
+returns c =
     let no = ne-eqb (first (arrivalRules (now (c .before .before .before .before .before .args .received)) (length (now (c .before .before .before .before .before .args .reply))) (length (now (c .before .before .before .before .before .args .out))))) 0 (λ e. c .if1 .taken (c .before .arrival-refusal .ensures ∙ e)) in
     (rw no (ap (λ (n : ℕ). record { far = (c .before .before .before .before .before .args .far); answer = Refused n }) (c .before .arrival-refusal .ensures)), (rw no, rw no))
 
@@ -84,17 +84,20 @@ same-length-2 c = search needs
 -- src/far_end.rt:46:9
 returns-2 : tie.Need-returns-2
 unfolding arrived replyAfter outputAfter recordOf
-returns-2 c = 
+returns-2 c =
     let yes = eq-eqb (first (arrivalRules (now (c .before .before .before .before .before .before .before .before .before .before .before .before .before .before .before .before .before .before .before .args .received)) (length (now (c .before .before .before .before .before .before .before .before .before .before .before .before .before .before .before .before .before .before .before .args .reply))) (length (now (c .before .before .before .before .before .before .before .before .before .before .before .before .before .before .before .before .before .before .before .args .out))))) 0 (sym (c .before .before .before .before .before .before .before .before .before .before .before .before .before .before .before .arrival-refusal .ensures) ∙ c .before .before .before .before .before .before .before .before .before .before .before .before .before .before .if1 .left) in
     let here = eq-eqb (numberIn (now (c .before .before .before .before .before .before .before .before .before .before .before .before .before .before .before .before .before .before .before .args .received))) ((c .before .before .before .before .before .before .before .before .before .before .before .before .before .before .before .before .before .before .before .args .far) .count) (sym (c .before .before .before .before .before .before .before .before .before .before .before .before .before .u32-at .ensures) ∙ c .before .before .before .before .before .before .before .before .before .before .before .if2 .taken) in
-    let short : length (carriedIn (now (c .before .before .before .before .before .before .before .before .before .before .before .before .before .before .before .before .before .before .before .args .received))) ≤ length (now (c .before .before .before .before .before .before .before .before .before .before .before .before .before .before .before .before .before .before .before .args .out)) = simp length-drop (omega (arith, (arrival-fits (now (c .before .before .before .before .before .before .before .before .before .before .before .before .before .before .before .before .before .before .before .args .received)) (length (now (c .before .before .before .before .before .before .before .before .before .before .before .before .before .before .before .before .before .before .before .args .reply))) (length (now (c .before .before .before .before .before .before .before .before .before .before .before .before .before .before .before .before .before .before .before .args .out))) (sym (c .before .before .before .before .before .before .before .before .before .before .before .before .before .before .before .arrival-refusal .ensures) ∙ c .before .before .before .before .before .before .before .before .before .before .before .before .before .before .if1 .left)) .size, (arrival-fits (now (c .before .before .before .before .before .before .before .before .before .before .before .before .before .before .before .before .before .before .before .args .received)) (length (now (c .before .before .before .before .before .before .before .before .before .before .before .before .before .before .before .before .before .before .before .args .reply))) (length (now (c .before .before .before .before .before .before .before .before .before .before .before .before .before .before .before .before .before .before .before .args .out))) (sym (c .before .before .before .before .before .before .before .before .before .before .before .before .before .before .before .arrival-refusal .ensures) ∙ c .before .before .before .before .before .before .before .before .before .before .before .before .before .before .if1 .left)) .output)) in
-    ( rw (yes, here)
-    (ap₂ (λ (h : Heard) (n : ℕ). record { far = record { count = (c .before .before .before .before .before .before .before .before .before .before .before .before .before .before .before .before .before .before .before .args .far) .count + 1; station = h .station }; answer = Delivered n (h .answer) })
-    (c .before .hear .ensures ∙ ap (heard ((c .before .before .before .before .before .before .before .before .before .before .before .before .before .before .before .before .before .before .before .args .far) .station)) (part-rest 5 (now (c .before .before .before .before .before .before .before .before .before .before .before .before .before .before .before .before .before .before .before .args .received))))
-    (ap length (part-rest 5 (now (c .before .before .before .before .before .before .before .before .before .before .before .before .before .before .before .before .before .before .before .args .received)))))
-    , ( rw (yes, here) (c .before .before .before .before .put-reply .ensures ∙ splice-start (replyOf ((c .before .before .before .before .before .before .before .before .before .before .before .before .before .before .before .before .before .before .before .args .far) .count + 1)) (now (c .before .before .before .before .before .before .before .before .before .before .before .before .before .before .before .before .before .before .before .args .reply)) ((arrival-fits (now (c .before .before .before .before .before .before .before .before .before .before .before .before .before .before .before .before .before .before .before .args .received)) (length (now (c .before .before .before .before .before .before .before .before .before .before .before .before .before .before .before .before .before .before .before .args .reply))) (length (now (c .before .before .before .before .before .before .before .before .before .before .before .before .before .before .before .before .before .before .before .args .out))) (sym (c .before .before .before .before .before .before .before .before .before .before .before .before .before .before .before .arrival-refusal .ensures) ∙ c .before .before .before .before .before .before .before .before .before .before .before .before .before .before .if1 .left)) .reply))
-    , rw (yes, here)
-    (c .before .before .before .before .before .before .before .before .copy .ensures ∙ ap (λ (b : List ℕ). splice 0 b (now (c .before .before .before .before .before .before .before .before .before .before .before .before .before .before .before .before .before .before .before .args .out))) (part-rest 5 (now (c .before .before .before .before .before .before .before .before .before .before .before .before .before .before .before .before .before .before .before .args .received))) ∙ splice-start (carriedIn (now (c .before .before .before .before .before .before .before .before .before .before .before .before .before .before .before .before .before .before .before .args .received))) (now (c .before .before .before .before .before .before .before .before .before .before .before .before .before .before .before .before .before .before .before .args .out)) short) ) )
+    let short : length (carriedIn (now (c .before .before .before .before .before .before .before .before .before .before .before .before .before .before .before .before .before .before .before .args .received))) ≤ length (now (c .before .before .before .before .before .before .before .before .before .before .before .before .before .before .before .before .before .before .before .args .out)) = simp length-drop (omega (arith, (arrival-fits (now (c .before .before .before .before .before .before .before .before .before .before .before .before .before .before .before .before .before .before .before .args .received)) (length (now (c .before .before .before .before .before .before .before .before .before .before .before .before .before .before .before .before .before .before .before .args .reply))) (length (now (c .before .before .before .before .before .before .before .before .before .before .before .before .before .before .before .before .before .before .before .args .out))) (sym (c .before .before .before .before .before .before .before .before .before .before .before .before .before .before .before .arrival-refusal .ensures) ∙ c .before .before .before .before .before .before .before .before .before .before .before .before .before .before .if1 .left)) .size, (arrival-fits (now (c .before .before .before .before .before .before .before .before .before .before .before .before .before .before .before .before .before .before .before .args .received)) (length (now (c .before .before .before .before .before .before .before .before .before .before .before .before .before .before .before .before .before .before .before .args .reply))) (length (now (c .before .before .before .before .before .before .before .before .before .before .before .before .before .before .before .before .before .before .before .args .out))) (sym (c .before .before .before .before .before .before .before .before .before .before .before .before .before .before .before .arrival-refusal .ensures) ∙ c .before .before .before .before .before .before .before .before .before .before .before .before .before .before .if1 .left)) .output)) in (
+      rw (yes, here)
+          (ap₂ (λ (h : Heard) (n : ℕ). record { far = record { count = (c .before .before .before .before .before .before .before .before .before .before .before .before .before .before .before .before .before .before .before .args .far) .count + 1; station = h .station }; answer = Delivered n (h .answer) })
+          (c .before .hear .ensures ∙ ap (heard ((c .before .before .before .before .before .before .before .before .before .before .before .before .before .before .before .before .before .before .before .args .far) .station)) (part-rest 5 (now (c .before .before .before .before .before .before .before .before .before .before .before .before .before .before .before .before .before .before .before .args .received))))
+          (ap length (part-rest 5 (now (c .before .before .before .before .before .before .before .before .before .before .before .before .before .before .before .before .before .before .before .args .received))))),
+      (
+        rw (yes, here) (c .before .before .before .before .put-reply .ensures ∙ splice-start (replyOf ((c .before .before .before .before .before .before .before .before .before .before .before .before .before .before .before .before .before .before .before .args .far) .count + 1)) (now (c .before .before .before .before .before .before .before .before .before .before .before .before .before .before .before .before .before .before .before .args .reply)) ((arrival-fits (now (c .before .before .before .before .before .before .before .before .before .before .before .before .before .before .before .before .before .before .before .args .received)) (length (now (c .before .before .before .before .before .before .before .before .before .before .before .before .before .before .before .before .before .before .before .args .reply))) (length (now (c .before .before .before .before .before .before .before .before .before .before .before .before .before .before .before .before .before .before .before .args .out))) (sym (c .before .before .before .before .before .before .before .before .before .before .before .before .before .before .before .arrival-refusal .ensures) ∙ c .before .before .before .before .before .before .before .before .before .before .before .before .before .before .if1 .left)) .reply)),
+        rw (yes, here)
+            (c .before .before .before .before .before .before .before .before .copy .ensures ∙ ap (λ (b : List ℕ). splice 0 b (now (c .before .before .before .before .before .before .before .before .before .before .before .before .before .before .before .before .before .before .before .args .out))) (part-rest 5 (now (c .before .before .before .before .before .before .before .before .before .before .before .before .before .before .before .before .before .before .before .args .received))) ∙ splice-start (carriedIn (now (c .before .before .before .before .before .before .before .before .before .before .before .before .before .before .before .before .before .before .before .args .received))) (now (c .before .before .before .before .before .before .before .before .before .before .before .before .before .before .before .before .before .before .before .args .out)) short),
+      ),
+    )
 
 -- src/far_end.rt:57:5
 put-reply-requires-2 : tie.Need-put-reply-requires-2
@@ -107,7 +110,7 @@ same-length-3 c = search needs
 -- src/far_end.rt:59:9
 returns-3 : tie.Need-returns-3
 unfolding arrived replyAfter outputAfter recordOf
-returns-3 c = 
+returns-3 c =
     let yes = eq-eqb (first (arrivalRules (now (c .before .before .before .before .before .before .before .before .before .before .before .before .before .args .received)) (length (now (c .before .before .before .before .before .before .before .before .before .before .before .before .before .args .reply))) (length (now (c .before .before .before .before .before .before .before .before .before .before .before .before .before .args .out))))) 0 (sym (c .before .before .before .before .before .before .before .before .before .arrival-refusal .ensures) ∙ c .before .before .before .before .before .before .before .before .if1 .left) in
     let away = ne-eqb (numberIn (now (c .before .before .before .before .before .before .before .before .before .before .before .before .before .args .received))) ((c .before .before .before .before .before .before .before .before .before .before .before .before .before .args .far) .count) (λ e. c .before .before .before .before .before .if2 .left (c .before .before .before .before .before .before .before .u32-at .ensures ∙ e)) in
     let side = lt-ltb (numberIn (now (c .before .before .before .before .before .before .before .before .before .before .before .before .before .args .received))) ((c .before .before .before .before .before .before .before .before .before .before .before .before .before .args .far) .count) (rw (c .before .before .before .before .before .before .before .u32-at .ensures) at (c .if3 .taken)) in
@@ -120,7 +123,7 @@ same-length-4 c = search needs
 -- src/far_end.rt:25:1
 returns-4 : tie.Need-returns-4
 unfolding arrived replyAfter outputAfter recordOf
-returns-4 c = 
+returns-4 c =
     let yes = eq-eqb (first (arrivalRules (now (c .before .before .before .before .before .before .before .before .before .before .before .before .before .args .received)) (length (now (c .before .before .before .before .before .before .before .before .before .before .before .before .before .args .reply))) (length (now (c .before .before .before .before .before .before .before .before .before .before .before .before .before .args .out))))) 0 (sym (c .before .before .before .before .before .before .before .before .before .arrival-refusal .ensures) ∙ c .before .before .before .before .before .before .before .before .if1 .left) in
     let away = ne-eqb (numberIn (now (c .before .before .before .before .before .before .before .before .before .before .before .before .before .args .received))) ((c .before .before .before .before .before .before .before .before .before .before .before .before .before .args .far) .count) (λ e. c .before .before .before .before .before .if2 .left (c .before .before .before .before .before .before .before .u32-at .ensures ∙ e)) in
     let side = le-ltb (numberIn (now (c .before .before .before .before .before .before .before .before .before .before .before .before .before .args .received))) ((c .before .before .before .before .before .before .before .before .before .before .before .before .before .args .far) .count) (rw (c .before .before .before .before .before .before .before .u32-at .ensures) at (c .if3 .left)) in

@@ -22,10 +22,11 @@ same-length c = search needs
 -- src/far_end.rt:15:1
 returns : tie.Need-returns
 unfolding recordOf
-returns c = 
-    rw
-    ( c .before .before .put-u32 .ensures
-    , c .before .before .before .before .before .before .put-u8 .ensures )
+returns c =
+    rw (
+      c .before .before .put-u32 .ensures,
+      c .before .before .before .before .before .before .put-u8 .ensures,
+    )
 
 pub put-reply-spec : {M : Type 1} → statement M
 put-reply-spec = tie.close (tie.spec put-u8-requires put-u32-requires same-length returns)

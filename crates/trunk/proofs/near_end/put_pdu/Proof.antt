@@ -82,9 +82,9 @@ same-length-2 c = search needs
 
 -- src/near_end.rt:67:1
 returns-3 : tie.Need-returns-3
-returns-3 c = 
+returns-3 c =
     let body : take (52 + (c .before .before .before .before .before .before .s .given .0 .1 .0) - 52) (drop 52 (now (c .before .before .before .before .before .before .before .before .before .before .before .args .datagram))) ≡ bodyOf (now (c .before .before .before .before .before .before .before .before .before .before .before .args .datagram)) =
-        ap (λ (m : ℕ). take m (drop 52 (now (c .before .before .before .before .before .before .before .before .before .before .before .args .datagram)))) (add-sub-cancel-left 52 (c .before .before .before .before .before .before .s .given .0 .1 .0)) ∙ sym (body-there (now (c .before .before .before .before .before .before .before .before .before .before .before .args .datagram)) (c .before .before .before .before .before .before .s .given .0 .0) (c .before .before .before .before .before .before .s .given .0 .1 .0) (sym (c .before .before .before .before .before .before .before .before .read .ensures) ∙ c .before .before .before .before .before .before .s .given .1) .1) in
+    ap (λ (m : ℕ). take m (drop 52 (now (c .before .before .before .before .before .before .before .before .before .before .before .args .datagram)))) (add-sub-cancel-left 52 (c .before .before .before .before .before .before .s .given .0 .1 .0)) ∙ sym (body-there (now (c .before .before .before .before .before .before .before .before .before .before .before .args .datagram)) (c .before .before .before .before .before .before .s .given .0 .0) (c .before .before .before .before .before .before .s .given .0 .1 .0) (sym (c .before .before .before .before .before .before .before .before .read .ensures) ∙ c .before .before .before .before .before .before .s .given .1) .1) in
     let size : signalSize (c .before .before .before .before .before .before .s .given .0 .1 .0) ≤ 180 = (carried-size (now (c .before .before .before .before .before .before .before .before .before .before .before .args .datagram)) (c .before .before .before .before .before .before .s .given .0 .0) (c .before .before .before .before .before .before .s .given .0 .1 .0) (sym (c .before .before .before .before .before .before .before .before .read .ensures) ∙ c .before .before .before .before .before .before .s .given .1) (c .before .before .before .before .before .before .before .before .before .before .before .pre .1)) in
     c .before .before .write-signal .ensures .1
     ∙ ap (λ (b : List ℕ). left (first (signalWriting (c .before .before .before .before .before .before .s .given .0 .0) (length b) (length (now (c .before .before .before .before .before .before .before .before .before .before .before .args .out))))) (signalBytes (c .before .before .before .before .before .before .s .given .0 .0) b) (now (c .before .before .before .before .before .before .before .before .before .before .before .args .out))) body

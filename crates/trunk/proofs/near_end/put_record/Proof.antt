@@ -46,7 +46,7 @@ same-length c = search needs
 
 -- src/near_end.rt:84:1
 returns : tie.Need-returns
-returns c = 
+returns c =
     let long : length (c .before .before .before .before .before .before .put-u32 .last .0) ≡ length (now (c .before .before .before .before .before .before .before .before .before .before .before .before .before .before .args .row)) = c .before .before .before .before .before .before .put-u32 .kept .0 ∙ c .before .before .before .before .before .before .before .before .before .before .put-u8 .kept .0 in
     ap (λ (l : List ℕ). take 5 (c .before .before .before .before .before .before .put-u32 .last .0) ++ (l ++ drop (length (c .before .before .before .before .before .before .put-u32 .last .0) - 5) (drop 5 (c .before .before .before .before .before .before .put-u32 .last .0)))) (c .before .before .put-pdu .ensures)
     ∙ part-splice 5 (length (c .before .before .before .before .before .before .put-u32 .last .0) - 5) (writtenForm (now (c .before .before .before .before .before .before .before .before .before .before .before .before .before .before .args .datagram))) (c .before .before .before .before .before .before .put-u32 .last .0) (omega arith) (omega (arith, carried-short (now (c .before .before .before .before .before .before .before .before .before .before .before .before .before .before .args .datagram)) (c .before .before .before .before .before .before .before .before .before .before .before .before .before .before .pre .1)))

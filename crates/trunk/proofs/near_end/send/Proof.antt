@@ -28,7 +28,7 @@ send-refusal-requires c κs = search needs
 -- src/near_end.rt:149:9
 returns : tie.Need-returns
 unfolding sent sentOut
-returns c = 
+returns c =
     let no = ne-eqb (first (sendRules (c .before .before .before .before .args .near) (now (c .before .before .before .before .args .store)) (c .before .before .before .before .args .i) (length (now (c .before .before .before .before .args .out))))) 0 (λ e. c .if1 .taken (c .before .send-refusal .ensures ∙ e)) in
     (rw no (ap Refused (c .before .send-refusal .ensures)), rw no)
 
@@ -71,14 +71,15 @@ same-length c = search needs
 -- src/near_end.rt:143:1
 returns-2 : tie.Need-returns-2
 unfolding sent sentOut
-returns-2 c = 
+returns-2 c =
     let yes = eq-eqb (first (sendRules (c .before .before .before .before .before .before .before .before .before .before .before .before .args .near) (now (c .before .before .before .before .before .before .before .before .before .before .before .before .args .store)) (c .before .before .before .before .before .before .before .before .before .before .before .before .args .i) (length (now (c .before .before .before .before .before .before .before .before .before .before .before .before .args .out))))) 0 (sym (c .before .before .before .before .before .before .before .before .before .send-refusal .ensures) ∙ c .before .before .before .before .before .before .before .before .if1 .left) in
-    let start : rowStart (c .before .before .before .before .before .before .before .before .before .before .before .before .args .i) ≤ 1344 = omega (arith, c .before .before .before .before .before .before .before .row-start .ensures) in
-    ( rw yes (ap Size (c .before .before .before .before .before .record-size .ensures ∙ ap recordSize (c .before .before .before .before .before .before .u8-at .ensures ∙ ap (λ (n : ℕ). num 1 n (now (c .before .before .before .before .before .before .before .before .before .before .before .before .args .store))) (c .before .before .before .before .before .before .before .row-start .ensures .0))))
-    , rw yes
-    (c .before .before .copy .ensures
-    ∙ ap₂ (λ (a n : ℕ). splice 0 (take (a + n - a) (drop a (now (c .before .before .before .before .before .before .before .before .before .before .before .before .args .store)))) (now (c .before .before .before .before .before .before .before .before .before .before .before .before .args .out))) (c .before .before .before .before .before .before .before .row-start .ensures .0) (c .before .before .before .before .before .record-size .ensures ∙ ap recordSize (c .before .before .before .before .before .before .u8-at .ensures ∙ ap (λ (n : ℕ). num 1 n (now (c .before .before .before .before .before .before .before .before .before .before .before .before .args .store))) (c .before .before .before .before .before .before .before .row-start .ensures .0)))
-    ∙ row-copied (now (c .before .before .before .before .before .before .before .before .before .before .before .before .args .store)) (now (c .before .before .before .before .before .before .before .before .before .before .before .before .args .out)) (c .before .before .before .before .before .before .before .before .before .before .before .before .args .i) ((send-fits (c .before .before .before .before .before .before .before .before .before .before .before .before .args .near) (now (c .before .before .before .before .before .before .before .before .before .before .before .before .args .store)) (c .before .before .before .before .before .before .before .before .before .before .before .before .args .i) (length (now (c .before .before .before .before .before .before .before .before .before .before .before .before .args .out))) (sym (c .before .before .before .before .before .before .before .before .before .send-refusal .ensures) ∙ c .before .before .before .before .before .before .before .before .if1 .left)) .full) start ((send-fits (c .before .before .before .before .before .before .before .before .before .before .before .before .args .near) (now (c .before .before .before .before .before .before .before .before .before .before .before .before .args .store)) (c .before .before .before .before .before .before .before .before .before .before .before .before .args .i) (length (now (c .before .before .before .before .before .before .before .before .before .before .before .before .args .out))) (sym (c .before .before .before .before .before .before .before .before .before .send-refusal .ensures) ∙ c .before .before .before .before .before .before .before .before .if1 .left)) .space)) )
+    let start : rowStart (c .before .before .before .before .before .before .before .before .before .before .before .before .args .i) ≤ 1344 = omega (arith, c .before .before .before .before .before .before .before .row-start .ensures) in (
+      rw yes (ap Size (c .before .before .before .before .before .record-size .ensures ∙ ap recordSize (c .before .before .before .before .before .before .u8-at .ensures ∙ ap (λ (n : ℕ). num 1 n (now (c .before .before .before .before .before .before .before .before .before .before .before .before .args .store))) (c .before .before .before .before .before .before .before .row-start .ensures .0)))),
+      rw yes
+          (c .before .before .copy .ensures
+          ∙ ap₂ (λ (a n : ℕ). splice 0 (take (a + n - a) (drop a (now (c .before .before .before .before .before .before .before .before .before .before .before .before .args .store)))) (now (c .before .before .before .before .before .before .before .before .before .before .before .before .args .out))) (c .before .before .before .before .before .before .before .row-start .ensures .0) (c .before .before .before .before .before .record-size .ensures ∙ ap recordSize (c .before .before .before .before .before .before .u8-at .ensures ∙ ap (λ (n : ℕ). num 1 n (now (c .before .before .before .before .before .before .before .before .before .before .before .before .args .store))) (c .before .before .before .before .before .before .before .row-start .ensures .0)))
+          ∙ row-copied (now (c .before .before .before .before .before .before .before .before .before .before .before .before .args .store)) (now (c .before .before .before .before .before .before .before .before .before .before .before .before .args .out)) (c .before .before .before .before .before .before .before .before .before .before .before .before .args .i) ((send-fits (c .before .before .before .before .before .before .before .before .before .before .before .before .args .near) (now (c .before .before .before .before .before .before .before .before .before .before .before .before .args .store)) (c .before .before .before .before .before .before .before .before .before .before .before .before .args .i) (length (now (c .before .before .before .before .before .before .before .before .before .before .before .before .args .out))) (sym (c .before .before .before .before .before .before .before .before .before .send-refusal .ensures) ∙ c .before .before .before .before .before .before .before .before .if1 .left)) .full) start ((send-fits (c .before .before .before .before .before .before .before .before .before .before .before .before .args .near) (now (c .before .before .before .before .before .before .before .before .before .before .before .before .args .store)) (c .before .before .before .before .before .before .before .before .before .before .before .before .args .i) (length (now (c .before .before .before .before .before .before .before .before .before .before .before .before .args .out))) (sym (c .before .before .before .before .before .before .before .before .before .send-refusal .ensures) ∙ c .before .before .before .before .before .before .before .before .if1 .left)) .space)),
+    )
 
 pub send-spec : {M : Type 1} → statement M
 send-spec =

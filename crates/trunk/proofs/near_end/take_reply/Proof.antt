@@ -22,9 +22,9 @@ reply-refusal-requires c κs = search needs
 -- src/near_end.rt:164:9
 returns : tie.Need-returns
 unfolding replied
-returns c = 
+returns c =
     rw
-    ( ne-eqb (first (replyRules (c .before .before .before .args .near) (now (c .before .before .before .args .received)))) 0 (λ e. c .if1 .taken (c .before .reply-refusal .ensures ∙ e)) ) (ap (λ (n : ℕ). record { near = c .before .before .before .args .near; answer = Refused n }) (c .before .reply-refusal .ensures))
+    (ne-eqb (first (replyRules (c .before .before .before .args .near) (now (c .before .before .before .args .received)))) 0 (λ e. c .if1 .taken (c .before .reply-refusal .ensures ∙ e))) (ap (λ (n : ℕ). record { near = c .before .before .before .args .near; answer = Refused n }) (c .before .reply-refusal .ensures))
 
 -- src/near_end.rt:169:42
 u32-at-requires : tie.Need-u32-at-requires
@@ -37,9 +37,9 @@ later-requires c κs = search needs
 -- src/near_end.rt:159:1
 returns-2 : tie.Need-returns-2
 unfolding replied
-returns-2 c = 
+returns-2 c =
     rw
-    ( eq-eqb (first (replyRules (c .before .before .before .before .before .args .near) (now (c .before .before .before .before .before .args .received)))) 0 (sym (c .before .before .before .reply-refusal .ensures) ∙ c .before .before .if1 .left) ) (ap (λ (n : ℕ). record { near = record { accepted = c .before .before .before .before .before .args .near .accepted; acknowledged = n }; answer = Acknowledged n }) (c .later .ensures ∙ ap (acknowledgedAfter (c .before .before .before .before .before .args .near .acknowledged)) (c .before .u32-at .ensures)))
+    (eq-eqb (first (replyRules (c .before .before .before .before .before .args .near) (now (c .before .before .before .before .before .args .received)))) 0 (sym (c .before .before .before .reply-refusal .ensures) ∙ c .before .before .if1 .left)) (ap (λ (n : ℕ). record { near = record { accepted = c .before .before .before .before .before .args .near .accepted; acknowledged = n }; answer = Acknowledged n }) (c .later .ensures ∙ ap (acknowledgedAfter (c .before .before .before .before .before .args .near .acknowledged)) (c .before .u32-at .ensures)))
 
 pub take-reply-spec : {M : Type 1} → statement M
 take-reply-spec =

@@ -21,9 +21,9 @@ unknown-kind-requires c κs = search needs
 -- src/records.rt:168:9
 returns : tie.Need-returns
 unfolding arrivalRules
-returns c = 
+returns c =
     rw
-    ( sym (c .before .unknown-kind .ensures) ∙ c .if1 .taken )
+    (sym (c .before .unknown-kind .ensures) ∙ c .if1 .taken)
 
 -- src/records.rt:170:8
 wrong-size-requires : tie.Need-wrong-size-requires
@@ -32,10 +32,11 @@ wrong-size-requires c κs = search needs
 -- src/records.rt:171:9
 returns-2 : tie.Need-returns-2
 unfolding arrivalRules
-returns-2 c = 
-    rw
-    ( sym (c .before .before .before .unknown-kind .ensures) ∙ c .before .before .if1 .left
-    , sym (c .before .wrong-size .ensures) ∙ c .if2 .taken )
+returns-2 c =
+    rw (
+      sym (c .before .before .before .unknown-kind .ensures) ∙ c .before .before .if1 .left,
+      sym (c .before .wrong-size .ensures) ∙ c .if2 .taken,
+    )
 
 -- src/records.rt:173:8
 is-reply-requires : tie.Need-is-reply-requires
@@ -44,11 +45,12 @@ is-reply-requires c κs = has-head (now (c .before .before .before .before .befo
 -- src/records.rt:174:9
 returns-3 : tie.Need-returns-3
 unfolding arrivalRules
-returns-3 c = 
-    rw
-    ( sym (c .before .before .before .before .before .unknown-kind .ensures) ∙ c .before .before .before .before .if1 .left
-    , sym (c .before .before .before .wrong-size .ensures) ∙ c .before .before .if2 .left
-    , sym (c .before .is-reply .ensures) ∙ c .if3 .taken )
+returns-3 c =
+    rw (
+      sym (c .before .before .before .before .before .unknown-kind .ensures) ∙ c .before .before .before .before .if1 .left,
+      sym (c .before .before .before .wrong-size .ensures) ∙ c .before .before .if2 .left,
+      sym (c .before .is-reply .ensures) ∙ c .if3 .taken,
+    )
 
 -- src/records.rt:176:8
 last-of-all-requires : tie.Need-last-of-all-requires
@@ -57,12 +59,13 @@ last-of-all-requires c κs = has-head (now (c .before .before .before .before .b
 -- src/records.rt:177:9
 returns-4 : tie.Need-returns-4
 unfolding arrivalRules
-returns-4 c = 
-    rw
-    ( sym (c .before .before .before .before .before .before .before .unknown-kind .ensures) ∙ c .before .before .before .before .before .before .if1 .left
-    , sym (c .before .before .before .before .before .wrong-size .ensures) ∙ c .before .before .before .before .if2 .left
-    , sym (c .before .before .before .is-reply .ensures) ∙ c .before .before .if3 .left
-    , sym (c .before .last-of-all .ensures) ∙ c .if4 .taken )
+returns-4 c =
+    rw (
+      sym (c .before .before .before .before .before .before .before .unknown-kind .ensures) ∙ c .before .before .before .before .before .before .if1 .left,
+      sym (c .before .before .before .before .before .wrong-size .ensures) ∙ c .before .before .before .before .if2 .left,
+      sym (c .before .before .before .is-reply .ensures) ∙ c .before .before .if3 .left,
+      sym (c .before .last-of-all .ensures) ∙ c .if4 .taken,
+    )
 
 -- src/records.rt:179:8
 wrong-carried-requires : tie.Need-wrong-carried-requires
@@ -71,13 +74,14 @@ wrong-carried-requires c κs = has-head (now (c .before .before .before .before 
 -- src/records.rt:180:9
 returns-5 : tie.Need-returns-5
 unfolding arrivalRules
-returns-5 c = 
-    rw
-    ( sym (c .before .before .before .before .before .before .before .before .before .unknown-kind .ensures) ∙ c .before .before .before .before .before .before .before .before .if1 .left
-    , sym (c .before .before .before .before .before .before .before .wrong-size .ensures) ∙ c .before .before .before .before .before .before .if2 .left
-    , sym (c .before .before .before .before .before .is-reply .ensures) ∙ c .before .before .before .before .if3 .left
-    , sym (c .before .before .before .last-of-all .ensures) ∙ c .before .before .if4 .left
-    , sym (c .before .wrong-carried .ensures) ∙ c .if5 .taken )
+returns-5 c =
+    rw (
+      sym (c .before .before .before .before .before .before .before .before .before .unknown-kind .ensures) ∙ c .before .before .before .before .before .before .before .before .if1 .left,
+      sym (c .before .before .before .before .before .before .before .wrong-size .ensures) ∙ c .before .before .before .before .before .before .if2 .left,
+      sym (c .before .before .before .before .before .is-reply .ensures) ∙ c .before .before .before .before .if3 .left,
+      sym (c .before .before .before .last-of-all .ensures) ∙ c .before .before .if4 .left,
+      sym (c .before .wrong-carried .ensures) ∙ c .if5 .taken,
+    )
 
 -- src/records.rt:182:8
 either-requires : tie.Need-either-requires
@@ -86,26 +90,28 @@ either-requires c κs = search needs
 -- src/records.rt:183:9
 returns-6 : tie.Need-returns-6
 unfolding arrivalRules
-returns-6 c = 
-    rw
-    ( sym (c .before .before .before .before .before .before .before .before .before .before .before .unknown-kind .ensures) ∙ c .before .before .before .before .before .before .before .before .before .before .if1 .left
-    , sym (c .before .before .before .before .before .before .before .before .before .wrong-size .ensures) ∙ c .before .before .before .before .before .before .before .before .if2 .left
-    , sym (c .before .before .before .before .before .before .before .is-reply .ensures) ∙ c .before .before .before .before .before .before .if3 .left
-    , sym (c .before .before .before .before .before .last-of-all .ensures) ∙ c .before .before .before .before .if4 .left
-    , sym (c .before .before .before .wrong-carried .ensures) ∙ c .before .before .if5 .left
-    , sym (c .before .either .ensures) ∙ c .if6 .taken )
+returns-6 c =
+    rw (
+      sym (c .before .before .before .before .before .before .before .before .before .before .before .unknown-kind .ensures) ∙ c .before .before .before .before .before .before .before .before .before .before .if1 .left,
+      sym (c .before .before .before .before .before .before .before .before .before .wrong-size .ensures) ∙ c .before .before .before .before .before .before .before .before .if2 .left,
+      sym (c .before .before .before .before .before .before .before .is-reply .ensures) ∙ c .before .before .before .before .before .before .if3 .left,
+      sym (c .before .before .before .before .before .last-of-all .ensures) ∙ c .before .before .before .before .if4 .left,
+      sym (c .before .before .before .wrong-carried .ensures) ∙ c .before .before .if5 .left,
+      sym (c .before .either .ensures) ∙ c .if6 .taken,
+    )
 
 -- src/records.rt:164:1
 returns-7 : tie.Need-returns-7
 unfolding arrivalRules
-returns-7 c = 
-    rw
-    ( sym (c .before .before .before .before .before .before .before .before .before .before .before .unknown-kind .ensures) ∙ c .before .before .before .before .before .before .before .before .before .before .if1 .left
-    , sym (c .before .before .before .before .before .before .before .before .before .wrong-size .ensures) ∙ c .before .before .before .before .before .before .before .before .if2 .left
-    , sym (c .before .before .before .before .before .before .before .is-reply .ensures) ∙ c .before .before .before .before .before .before .if3 .left
-    , sym (c .before .before .before .before .before .last-of-all .ensures) ∙ c .before .before .before .before .if4 .left
-    , sym (c .before .before .before .wrong-carried .ensures) ∙ c .before .before .if5 .left
-    , sym (c .before .either .ensures) ∙ c .if6 .left )
+returns-7 c =
+    rw (
+      sym (c .before .before .before .before .before .before .before .before .before .before .before .unknown-kind .ensures) ∙ c .before .before .before .before .before .before .before .before .before .before .if1 .left,
+      sym (c .before .before .before .before .before .before .before .before .before .wrong-size .ensures) ∙ c .before .before .before .before .before .before .before .before .if2 .left,
+      sym (c .before .before .before .before .before .before .before .is-reply .ensures) ∙ c .before .before .before .before .before .before .if3 .left,
+      sym (c .before .before .before .before .before .last-of-all .ensures) ∙ c .before .before .before .before .if4 .left,
+      sym (c .before .before .before .wrong-carried .ensures) ∙ c .before .before .if5 .left,
+      sym (c .before .either .ensures) ∙ c .if6 .left,
+    )
 
 pub arrival-refusal-spec : {M : Type 1} → statement M
 arrival-refusal-spec =

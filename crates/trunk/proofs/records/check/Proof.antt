@@ -1,3 +1,4 @@
+use Rattle.trunk.proofs.EndLaws.{checked-short}
 use Rattle.trunk.specs.declared.Checked.the-variants.{Refused, Reply, Pdu}
 use Rattle.wire.specs.First.{first}
 use lib.ListN.{length}
@@ -25,9 +26,9 @@ check-refusal-requires c κs = search needs
 -- src/records.rt:194:9
 returns : tie.Need-returns
 unfolding checked
-returns c = 
+returns c =
     rw
-    ( ne-eqb (first (checkRules (now (c .before .before .before .args .received)))) 0 (λ e. c .if1 .taken (c .before .check-refusal .ensures ∙ e)) ) (ap Refused (c .before .check-refusal .ensures))
+    (ne-eqb (first (checkRules (now (c .before .before .before .args .received)))) 0 (λ e. c .if1 .taken (c .before .check-refusal .ensures ∙ e))) (ap Refused (c .before .check-refusal .ensures))
 
 -- src/records.rt:196:9
 u32-at-requires : tie.Need-u32-at-requires
@@ -37,25 +38,35 @@ u32-at-requires c κs = checked-head (now (c .before .before .before .args .rece
 is-reply-requires : tie.Need-is-reply-requires
 is-reply-requires c κs = checked-head (now (c .before .before .before .before .args .received)) (sym (c .before .before .check-refusal .ensures) ∙ c .before .if1 .left)
 
+-- src/records.rt:200:19
+cast-t8 : tie.Need-cast-t8
+cast-t8 c = omega (arith, checked-short (now (c .before .before .before .before .before .before .args .received)) (sym (c .before .before .before .before .check-refusal .ensures) ∙ c .before .before .before .if1 .left))
+
 -- src/records.rt:204:19
 u8-at-requires : tie.Need-u8-at-requires
 u8-at-requires c κs = omega (arith, checked-head (now (c .before .before .before .before .before .before .args .received)) (sym (c .before .before .before .before .check-refusal .ensures) ∙ c .before .before .before .if1 .left))
 
+-- src/records.rt:206:19
+cast-t11 : tie.Need-cast-t11
+cast-t11 c = omega (arith, checked-short (now (c .before .before .before .before .before .before .before .args .received)) (sym (c .before .before .before .before .before .check-refusal .ensures) ∙ c .before .before .before .before .if1 .left))
+
 -- src/records.rt:189:1
 returns-2 : tie.Need-returns-2
 unfolding checked
-returns-2 c = 
-    rw
-    ( eq-eqb (first (checkRules (now (c .before .before .before .before .before .before .args .received)))) 0 (sym (c .before .before .before .before .check-refusal .ensures) ∙ c .before .before .before .if1 .left)
-    , sym (c .before .is-reply .ensures) ∙ c .if2 .taken ) (ap (λ (n : ℕ). Reply n (length (now (c .before .before .before .before .before .before .args .received)))) (c .before .before .u32-at .ensures))
+returns-2 c =
+    rw (
+      eq-eqb (first (checkRules (now (c .before .before .before .before .before .before .args .received)))) 0 (sym (c .before .before .before .before .check-refusal .ensures) ∙ c .before .before .before .if1 .left),
+      sym (c .before .is-reply .ensures) ∙ c .if2 .taken,
+    ) (ap (λ (n : ℕ). Reply n (length (now (c .before .before .before .before .before .before .args .received)))) (c .before .before .u32-at .ensures))
 
 -- src/records.rt:189:1
 returns-3 : tie.Need-returns-3
 unfolding checked
-returns-3 c = 
-    rw
-    ( eq-eqb (first (checkRules (now (c .before .before .before .before .before .before .before .args .received)))) 0 (sym (c .before .before .before .before .before .check-refusal .ensures) ∙ c .before .before .before .before .if1 .left)
-    , sym (c .before .before .is-reply .ensures) ∙ c .before .if2 .left ) (ap₂ (λ (k n : ℕ). Pdu k n (length (now (c .before .before .before .before .before .before .before .args .received)))) (c .u8-at .ensures) (c .before .before .before .u32-at .ensures))
+returns-3 c =
+    rw (
+      eq-eqb (first (checkRules (now (c .before .before .before .before .before .before .before .args .received)))) 0 (sym (c .before .before .before .before .before .check-refusal .ensures) ∙ c .before .before .before .before .if1 .left),
+      sym (c .before .before .is-reply .ensures) ∙ c .before .if2 .left,
+    ) (ap₂ (λ (k n : ℕ). Pdu k n (length (now (c .before .before .before .before .before .before .before .args .received)))) (c .u8-at .ensures) (c .before .before .before .u32-at .ensures))
 
 pub check-spec : {M : Type 1} → statement M
 check-spec =
@@ -65,6 +76,8 @@ check-spec =
     returns
     u32-at-requires
     is-reply-requires
+    cast-t8
     u8-at-requires
+    cast-t11
     returns-2
     returns-3)

@@ -19,9 +19,9 @@ unknown-kind-requires c κs = search needs
 -- src/records.rt:130:9
 returns : tie.Need-returns
 unfolding checkRules
-returns c = 
+returns c =
     rw
-    ( sym (c .before .unknown-kind .ensures) ∙ c .if1 .taken )
+    (sym (c .before .unknown-kind .ensures) ∙ c .if1 .taken)
 
 -- src/records.rt:132:8
 wrong-size-requires : tie.Need-wrong-size-requires
@@ -30,10 +30,11 @@ wrong-size-requires c κs = search needs
 -- src/records.rt:133:9
 returns-2 : tie.Need-returns-2
 unfolding checkRules
-returns-2 c = 
-    rw
-    ( sym (c .before .before .before .unknown-kind .ensures) ∙ c .before .before .if1 .left
-    , sym (c .before .wrong-size .ensures) ∙ c .if2 .taken )
+returns-2 c =
+    rw (
+      sym (c .before .before .before .unknown-kind .ensures) ∙ c .before .before .if1 .left,
+      sym (c .before .wrong-size .ensures) ∙ c .if2 .taken,
+    )
 
 -- src/records.rt:135:8
 last-of-all-requires : tie.Need-last-of-all-requires
@@ -42,11 +43,12 @@ last-of-all-requires c κs = has-head (now (c .before .before .before .before .b
 -- src/records.rt:136:9
 returns-3 : tie.Need-returns-3
 unfolding checkRules
-returns-3 c = 
-    rw
-    ( sym (c .before .before .before .before .before .unknown-kind .ensures) ∙ c .before .before .before .before .if1 .left
-    , sym (c .before .before .before .wrong-size .ensures) ∙ c .before .before .if2 .left
-    , sym (c .before .last-of-all .ensures) ∙ c .if3 .taken )
+returns-3 c =
+    rw (
+      sym (c .before .before .before .before .before .unknown-kind .ensures) ∙ c .before .before .before .before .if1 .left,
+      sym (c .before .before .before .wrong-size .ensures) ∙ c .before .before .if2 .left,
+      sym (c .before .last-of-all .ensures) ∙ c .if3 .taken,
+    )
 
 -- src/records.rt:138:8
 wrong-carried-requires : tie.Need-wrong-carried-requires
@@ -55,22 +57,24 @@ wrong-carried-requires c κs = has-head (now (c .before .before .before .before 
 -- src/records.rt:139:9
 returns-4 : tie.Need-returns-4
 unfolding checkRules
-returns-4 c = 
-    rw
-    ( sym (c .before .before .before .before .before .before .before .unknown-kind .ensures) ∙ c .before .before .before .before .before .before .if1 .left
-    , sym (c .before .before .before .before .before .wrong-size .ensures) ∙ c .before .before .before .before .if2 .left
-    , sym (c .before .before .before .last-of-all .ensures) ∙ c .before .before .if3 .left
-    , sym (c .before .wrong-carried .ensures) ∙ c .if4 .taken )
+returns-4 c =
+    rw (
+      sym (c .before .before .before .before .before .before .before .unknown-kind .ensures) ∙ c .before .before .before .before .before .before .if1 .left,
+      sym (c .before .before .before .before .before .wrong-size .ensures) ∙ c .before .before .before .before .if2 .left,
+      sym (c .before .before .before .last-of-all .ensures) ∙ c .before .before .if3 .left,
+      sym (c .before .wrong-carried .ensures) ∙ c .if4 .taken,
+    )
 
 -- src/records.rt:126:1
 returns-5 : tie.Need-returns-5
 unfolding checkRules
-returns-5 c = 
-    rw
-    ( sym (c .before .before .before .before .before .before .before .unknown-kind .ensures) ∙ c .before .before .before .before .before .before .if1 .left
-    , sym (c .before .before .before .before .before .wrong-size .ensures) ∙ c .before .before .before .before .if2 .left
-    , sym (c .before .before .before .last-of-all .ensures) ∙ c .before .before .if3 .left
-    , sym (c .before .wrong-carried .ensures) ∙ c .if4 .left )
+returns-5 c =
+    rw (
+      sym (c .before .before .before .before .before .before .before .unknown-kind .ensures) ∙ c .before .before .before .before .before .before .if1 .left,
+      sym (c .before .before .before .before .before .wrong-size .ensures) ∙ c .before .before .before .before .if2 .left,
+      sym (c .before .before .before .last-of-all .ensures) ∙ c .before .before .if3 .left,
+      sym (c .before .wrong-carried .ensures) ∙ c .if4 .left,
+    )
 
 pub check-refusal-spec : {M : Type 1} → statement M
 check-refusal-spec =

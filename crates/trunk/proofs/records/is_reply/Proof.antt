@@ -13,9 +13,9 @@ u8-at-requires c κs = search needs
 -- src/records.rt:90:1
 returns : tie.Need-returns
 unfolding isReply
-returns c = 
+returns c =
     rw
-    ( c .u8-at .ensures )
+    (c .u8-at .ensures)
 
 pub is-reply-spec : {M : Type 1} → statement M
 is-reply-spec = tie.close (tie.spec u8-at-requires returns)

@@ -25,7 +25,7 @@ no-requires c κs = search needs
 
 -- src/records.rt:23:1
 returns : tie.Need-returns
-returns c = 
+returns c =
     c .no .ensures
     ∙ ap not (c .before .either2 .ensures ∙ ap (λ (b : Bool). leb (c .before .before .before .args .kind) 12 || b) (c .before .before .either .ensures))
     ∙ sym (unknown-is (c .before .before .before .args .kind) (leb (c .before .before .before .args .kind) 12) (eqb (c .before .before .before .args .kind) 16) (eqb (c .before .before .before .args .kind) 32))

@@ -9,21 +9,21 @@ use Rattle.trunk.proofs.records.kind_of_words.Lts as lts
 
 -- src/records.rt:61:9
 returns : tie.Need-returns
-returns c = 
+returns c =
     rw
-    ( ne-eqb (c .before .args .message-type) 0 (c .if1 .taken) )
+    (ne-eqb (c .before .args .message-type) 0 (c .if1 .taken))
 
 -- src/records.rt:64:9
 returns-2 : tie.Need-returns-2
-returns-2 c = 
+returns-2 c =
     rw
-    ( eq-eqb (c .before .before .args .message-type) 0 (c .before .if1 .left) ) (omega arith)
+    (eq-eqb (c .before .before .args .message-type) 0 (c .before .if1 .left)) (omega arith)
 
 -- src/records.rt:57:1
 returns-3 : tie.Need-returns-3
-returns-3 c = 
+returns-3 c =
     rw
-    ( eq-eqb (c .before .before .args .message-type) 0 (c .before .if1 .left) ) (omega arith)
+    (eq-eqb (c .before .before .args .message-type) 0 (c .before .if1 .left)) (omega arith)
 
 pub kind-of-words-spec : {M : Type 1} → statement M
 kind-of-words-spec = tie.close (tie.spec returns returns-2 returns-3)

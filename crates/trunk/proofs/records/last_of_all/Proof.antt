@@ -28,12 +28,13 @@ both-requires c κs = search needs
 -- src/records.rt:98:1
 returns : tie.Need-returns
 unfolding lastOfAll isReply
-returns c = 
-    rw
-    ( c .both .ensures
-    , c .before .u32-at .ensures
-    , c .before .before .no .ensures
-    , c .before .before .before .is-reply .ensures )
+returns c =
+    rw (
+      c .both .ensures,
+      c .before .u32-at .ensures,
+      c .before .before .no .ensures,
+      c .before .before .before .is-reply .ensures,
+    )
 
 pub last-of-all-spec : {M : Type 1} → statement M
 last-of-all-spec =

@@ -28,9 +28,9 @@ add-result-2 c = search needs
 
 -- src/records.rt:37:9
 returns : tie.Need-returns
-returns c = 
+returns c =
     rw
-    ( le-leb (c .before .args .kind) 12 (c .if1 .taken) ) (omega arith)
+    (le-leb (c .before .args .kind) 12 (c .if1 .taken)) (omega arith)
 
 -- src/records.rt:40:16
 add-result-3 : tie.Need-add-result-3
@@ -38,17 +38,19 @@ add-result-3 c = search needs
 
 -- src/records.rt:40:9
 returns-2 : tie.Need-returns-2
-returns-2 c = 
-    rw
-    ( lt-leb (c .before .before .args .kind) 12 (c .before .if1 .left)
-    , eq-eqb (c .before .before .args .kind) 16 (c .if2 .taken) )
+returns-2 c =
+    rw (
+      lt-leb (c .before .before .args .kind) 12 (c .before .if1 .left),
+      eq-eqb (c .before .before .args .kind) 16 (c .if2 .taken),
+    )
 
 -- src/records.rt:33:1
 returns-3 : tie.Need-returns-3
-returns-3 c = 
-    rw
-    ( lt-leb (c .before .before .args .kind) 12 (c .before .if1 .left)
-    , ne-eqb (c .before .before .args .kind) 16 (c .if2 .left) ) (sym (head-alone (eqb (c .before .before .args .kind) 32)))
+returns-3 c =
+    rw (
+      lt-leb (c .before .before .args .kind) 12 (c .before .if1 .left),
+      ne-eqb (c .before .before .args .kind) 16 (c .if2 .left),
+    ) (sym (head-alone (eqb (c .before .before .args .kind) 32)))
 
 pub record-size-spec : {M : Type 1} → statement M
 record-size-spec =

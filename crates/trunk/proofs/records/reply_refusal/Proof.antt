@@ -23,9 +23,9 @@ unknown-kind-requires c κs = search needs
 -- src/records.rt:149:9
 returns : tie.Need-returns
 unfolding replyRules
-returns c = 
+returns c =
     rw
-    ( sym (c .before .unknown-kind .ensures) ∙ c .if1 .taken )
+    (sym (c .before .unknown-kind .ensures) ∙ c .if1 .taken)
 
 -- src/records.rt:151:8
 wrong-size-requires : tie.Need-wrong-size-requires
@@ -34,10 +34,11 @@ wrong-size-requires c κs = search needs
 -- src/records.rt:152:9
 returns-2 : tie.Need-returns-2
 unfolding replyRules
-returns-2 c = 
-    rw
-    ( sym (c .before .before .before .unknown-kind .ensures) ∙ c .before .before .if1 .left
-    , sym (c .before .wrong-size .ensures) ∙ c .if2 .taken )
+returns-2 c =
+    rw (
+      sym (c .before .before .before .unknown-kind .ensures) ∙ c .before .before .if1 .left,
+      sym (c .before .wrong-size .ensures) ∙ c .if2 .taken,
+    )
 
 -- src/records.rt:154:17
 is-reply-requires : tie.Need-is-reply-requires
@@ -50,11 +51,12 @@ no-requires c κs = search needs
 -- src/records.rt:155:9
 returns-3 : tie.Need-returns-3
 unfolding replyRules
-returns-3 c = 
-    rw
-    ( sym (c .before .before .before .before .before .before .unknown-kind .ensures) ∙ c .before .before .before .before .before .if1 .left
-    , sym (c .before .before .before .before .wrong-size .ensures) ∙ c .before .before .before .if2 .left
-    , sym (c .before .no .ensures ∙ ap not (c .before .before .is-reply .ensures)) ∙ c .if3 .taken )
+returns-3 c =
+    rw (
+      sym (c .before .before .before .before .before .before .unknown-kind .ensures) ∙ c .before .before .before .before .before .if1 .left,
+      sym (c .before .before .before .before .wrong-size .ensures) ∙ c .before .before .before .if2 .left,
+      sym (c .before .no .ensures ∙ ap not (c .before .before .is-reply .ensures)) ∙ c .if3 .taken,
+    )
 
 -- src/records.rt:157:24
 u32-at-requires : tie.Need-u32-at-requires
@@ -63,22 +65,24 @@ u32-at-requires c κs = has-head (now (c .before .before .before .before .before
 -- src/records.rt:158:9
 returns-4 : tie.Need-returns-4
 unfolding replyRules
-returns-4 c = 
-    rw
-    ( sym (c .before .before .before .before .before .before .before .before .before .unknown-kind .ensures) ∙ c .before .before .before .before .before .before .before .before .if1 .left
-    , sym (c .before .before .before .before .before .before .before .wrong-size .ensures) ∙ c .before .before .before .before .before .before .if2 .left
-    , sym (c .before .before .before .before .no .ensures ∙ ap not (c .before .before .before .before .before .is-reply .ensures)) ∙ c .before .before .before .if3 .left
-    , lt-ltb (c .before .before .before .before .before .before .before .before .before .before .before .args .near .accepted) (numberIn (now (c .before .before .before .before .before .before .before .before .before .before .before .args .r))) (rw (c .before .before .u32-at .ensures) at (c .if4 .taken)) )
+returns-4 c =
+    rw (
+      sym (c .before .before .before .before .before .before .before .before .before .unknown-kind .ensures) ∙ c .before .before .before .before .before .before .before .before .if1 .left,
+      sym (c .before .before .before .before .before .before .before .wrong-size .ensures) ∙ c .before .before .before .before .before .before .if2 .left,
+      sym (c .before .before .before .before .no .ensures ∙ ap not (c .before .before .before .before .before .is-reply .ensures)) ∙ c .before .before .before .if3 .left,
+      lt-ltb (c .before .before .before .before .before .before .before .before .before .before .before .args .near .accepted) (numberIn (now (c .before .before .before .before .before .before .before .before .before .before .before .args .r))) (rw (c .before .before .u32-at .ensures) at (c .if4 .taken)),
+    )
 
 -- src/records.rt:145:1
 returns-5 : tie.Need-returns-5
 unfolding replyRules
-returns-5 c = 
-    rw
-    ( sym (c .before .before .before .before .before .before .before .before .before .unknown-kind .ensures) ∙ c .before .before .before .before .before .before .before .before .if1 .left
-    , sym (c .before .before .before .before .before .before .before .wrong-size .ensures) ∙ c .before .before .before .before .before .before .if2 .left
-    , sym (c .before .before .before .before .no .ensures ∙ ap not (c .before .before .before .before .before .is-reply .ensures)) ∙ c .before .before .before .if3 .left
-    , le-ltb (c .before .before .before .before .before .before .before .before .before .before .before .args .near .accepted) (numberIn (now (c .before .before .before .before .before .before .before .before .before .before .before .args .r))) (rw (c .before .before .u32-at .ensures) at (c .if4 .left)) )
+returns-5 c =
+    rw (
+      sym (c .before .before .before .before .before .before .before .before .before .unknown-kind .ensures) ∙ c .before .before .before .before .before .before .before .before .if1 .left,
+      sym (c .before .before .before .before .before .before .before .wrong-size .ensures) ∙ c .before .before .before .before .before .before .if2 .left,
+      sym (c .before .before .before .before .no .ensures ∙ ap not (c .before .before .before .before .before .is-reply .ensures)) ∙ c .before .before .before .if3 .left,
+      le-ltb (c .before .before .before .before .before .before .before .before .before .before .before .args .near .accepted) (numberIn (now (c .before .before .before .before .before .before .before .before .before .before .before .args .r))) (rw (c .before .before .u32-at .ensures) at (c .if4 .left)),
+    )
 
 pub reply-refusal-spec : {M : Type 1} → statement M
 reply-refusal-spec =

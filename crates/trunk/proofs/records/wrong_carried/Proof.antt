@@ -27,9 +27,9 @@ is-reply-requires c κs = search needs
 -- src/records.rt:111:9
 returns : tie.Need-returns
 unfolding wrongCarried
-returns c = 
+returns c =
     rw
-    ( sym (c .before .is-reply .ensures) ∙ c .if1 .taken )
+    (sym (c .before .is-reply .ensures) ∙ c .if1 .taken)
 
 -- src/records.rt:113:16
 u8-at-requires : tie.Need-u8-at-requires
@@ -74,7 +74,7 @@ no-requires c κs = search needs
 -- src/records.rt:106:1
 returns-2 : tie.Need-returns-2
 unfolding wrongCarried
-returns-2 c = 
+returns-2 c =
     rw (sym (c .before .before .before .before .before .before .before .before .is-reply .ensures) ∙ c .before .before .before .before .before .before .before .if1 .left)
     (c .no .ensures
     ∙ ap not

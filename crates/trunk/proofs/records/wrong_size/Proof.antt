@@ -30,11 +30,12 @@ no-requires c κs = search needs
 -- src/records.rt:80:1
 returns-2 : tie.Need-returns-2
 unfolding wrongSize
-returns-2 c = 
-    rw
-    ( c .no .ensures
-    , c .before .record-size .ensures
-    , c .before .before .u8-at .ensures )
+returns-2 c =
+    rw (
+      c .no .ensures,
+      c .before .record-size .ensures,
+      c .before .before .u8-at .ensures,
+    )
 
 pub wrong-size-spec : {M : Type 1} → statement M
 wrong-size-spec =
