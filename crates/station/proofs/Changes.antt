@@ -1,9 +1,9 @@
 -- What follows from the table for one call: which answers change nothing, who can change nothing, and that no Transmitter lets a unit in.
 -- Each statement goes through the rows: a row either leaves the station as it was, or its premises refute what was assumed.
 -- Assumes nothing.
-use Prim.Native.Nat.{ℕ, _<_, _≤_}
+use Prim.Native.Nat.{ℕ, _<_}
 use mathlib.Core.Path.{_≡_, refl, sym, ap, _∙_, subst}
-use mathlib.Core.Bool.{Bool, true, false, true≢false, false≢true}
+use mathlib.Core.Bool.{Bool, true, false, true≢false}
 use mathlib.Core.List.{List}
 use mathlib.Core.Logic.{_⊎_, inl, inr, ⊎-elim}
 use lib.ListN.{length}
@@ -16,8 +16,8 @@ use Rattle.pdu.specs.declared.Transmitter.{Transmitter}
 use Rattle.pdu.specs.declared.Signal.{Signal}
 use Rattle.pdu.specs.declared.Reading.{Reading}
 use Rattle.pdu.specs.declared.Reading.the-variants.{Refused, Transmitter as aTransmitter, Signal as aSignal}
-use Rattle.station.specs.Units.{keyOf, unitAt, placeOf}
-use Rattle.station.specs.Runs.{Call, datagram, time, called}
+use Rattle.station.specs.Units.{keyOf, unitAt}
+use Rattle.station.specs.Runs.{Call, datagram, called}
 use Rattle.station.specs.declared.Station.{Station}
 use Rattle.station.proofs.PlaceLaws.{Sender, Stranger, sender-place, Agree, Clash}
 use Rattle.station.proofs.Table.{SameOwn, Passed, Table, unread, no-room, entered, again, stranger, other-net, other-id, not-fine, not-in, joined, positioned, passed, back, ticked, only-by-rules}

@@ -2,14 +2,14 @@
 -- becomes Fine exactly by one where not both levels are 4. By induction on the list: each call is a row of the table, and only the row of
 -- answer 42 touches the state.
 -- Assumes nothing.
-use Prim.Native.Nat.{ℕ, _<_, _≤_}
+use Prim.Native.Nat.{ℕ, _<_}
 use mathlib.Core.Path.{_≡_, refl, sym, ap, _∙_, subst}
-use mathlib.Core.Bool.{Bool, true, false, cond, _||_, true≢false, false≢true}
+use mathlib.Core.Bool.{Bool, true, false, cond, _||_, false≢true}
 use mathlib.Core.List.{List, [], _∷_}
 use mathlib.Core.Logic.{_⊎_, inl, inr, ⊎-elim, _↔_}
 use lib.ListN.{length, getD}
 use lib.Pow.{pow-pos}
-use lib.Dec.{eqb, ltb}
+use lib.Dec.{ltb}
 use borrow.Author.Tests.{eq-eqb, lt-ltb}
 use native.Mathlib.Omega.{arith}
 use Rattle.occupancy.specs.Places.{held}
@@ -17,12 +17,11 @@ use Rattle.occupancy.proofs.WordLaws.{held-past}
 use Rattle.pdu.specs.Reading.{reading}
 use Rattle.pdu.specs.declared.Transmitter.{Transmitter}
 use Rattle.pdu.specs.declared.Signal.{Signal}
-use Rattle.pdu.specs.declared.Reading.{Reading}
-use Rattle.pdu.specs.declared.Reading.the-variants.{Refused, Transmitter as aTransmitter, Signal as aSignal}
+use Rattle.pdu.specs.declared.Reading.the-variants.{Transmitter as aTransmitter, Signal as aSignal}
 use Rattle.station.specs.Numbers.{lastLevel, lastNet}
 use Rattle.station.specs.Units.{keyOf, blank, fresh, made, unitAt}
 use Rattle.station.specs.Hearing.{answering, signalRules, afterJ00, hearMessage, hearSignal, step, firstWord, heard}
-use Rattle.station.specs.Runs.{Call, datagram, time, called, after}
+use Rattle.station.specs.Runs.{Call, datagram, called, after}
 use Rattle.station.specs.declared.State.{State}
 use Rattle.station.specs.declared.State.the-variants.{Waiting, Coarse, Fine}
 use Rattle.station.specs.declared.Unit.{Unit}

@@ -2,14 +2,14 @@
 -- Each test is opened once here, so that the table and the theorems speak of places, keys and labels only.
 -- Assumes nothing.
 use Prim.Native.Nat.{ℕ, _<_, _≤_}
-use mathlib.Core.Path.{_≡_, refl, sym, ap, _∙_, subst}
+use mathlib.Core.Path.{_≡_, refl, sym, ap, _∙_}
 use mathlib.Core.Bool.{Bool, true, false, cond, not, _&&_, true≢false}
 use mathlib.Core.Logic.{_⊎_, inl, inr}
 use lib.Dec.{eqb, ltb}
-use borrow.Author.Tests.{eqb-true, eqb-false, eq-eqb, ne-eqb, ltb-true, ltb-false, lt-ltb, not-true, not-false}
+use borrow.Author.Tests.{eqb-true, eqb-false, eq-eqb, ltb-true, ltb-false, not-true, not-false}
 use native.Mathlib.Omega.{arith}
 use Rattle.wire.proofs.TableLaws.{both-true}
-use Rattle.occupancy.specs.Places.{places, held, freePlace}
+use Rattle.occupancy.specs.Places.{held, freePlace}
 use Rattle.occupancy.proofs.LeastLaws.{least-is, least-below, least-here}
 use Rattle.pdu.specs.declared.Word.{Word}
 use Rattle.pdu.specs.declared.Word.the-variants.{Absent, Here}
@@ -18,7 +18,6 @@ use Rattle.station.specs.Hearing.{otherId, labelled, messageOf, isFine}
 use Rattle.station.specs.declared.State.{State}
 use Rattle.station.specs.declared.State.the-variants.{Waiting, Coarse, Fine}
 use Rattle.station.specs.declared.Station.{Station}
-use Rattle.station.specs.declared.Message.{Message}
 use Rattle.station.specs.declared.Message.the-variants.{NetEntry, Ppli, Other}
 
 -- ---- where a key stands
@@ -83,6 +82,10 @@ none-free s e i l =
 
 -- ---- which IDs agree
 
+pub never : (b : Bool) → (b && false) ≡ false
+never true = refl
+never false = refl
+
 -- The IDs are the same, or one of them is zero.
 abbrev pub Agree : ℕ → ℕ → Type 0
 Agree own sender = (own ≡ sender) ⊎ ((own ≡ 0) ⊎ (sender ≡ 0))
@@ -94,9 +97,9 @@ Clash own sender = (own ≡ sender → ⊥) × (own ≡ 0 → ⊥) × (sender �
 pub clash : (own sender : ℕ) → otherId own sender ≡ true → Clash own sender
 unfolding otherId
 clash own sender e =
-    let apart = both-true (not (eqb own sender)) (not (eqb own 0) && not (eqb sender 0)) e in
-    let given = both-true (not (eqb own 0)) (not (eqb sender 0)) (apart .1) in (
-      eqb-false own sender (not-true (eqb own sender) (apart .0)),
+    let apart = both-true (not (eqb own 0) && not (eqb sender 0)) (not (eqb own sender)) e in
+    let given = both-true (not (eqb own 0)) (not (eqb sender 0)) (apart .0) in (
+      eqb-false own sender (not-true (eqb own sender) (apart .1)),
       eqb-false own 0 (not-true (eqb own 0) (given .0)),
       eqb-false sender 0 (not-true (eqb sender 0) (given .1)),
     )
@@ -105,7 +108,7 @@ pub agree : (own sender : ℕ) → otherId own sender ≡ false → Agree own se
 unfolding otherId
 agree own sender e = go (eqb own sender) (eqb own 0) (eqb sender 0) refl refl refl e
   where
-    go : (a b c : Bool) → eqb own sender ≡ a → eqb own 0 ≡ b → eqb sender 0 ≡ c → (not a && (not b && not c)) ≡ false → Agree own sender
+    go : (a b c : Bool) → eqb own sender ≡ a → eqb own 0 ≡ b → eqb sender 0 ≡ c → (not b && not c && not a) ≡ false → Agree own sender
     go true b c x y z f = inl (eqb-true own sender x)
     go false true c x y z f = inr (inl (eqb-true own 0 y))
     go false false true x y z f = inr (inr (eqb-true sender 0 z))
@@ -113,17 +116,9 @@ agree own sender e = go (eqb own sender) (eqb own 0) (eqb sender 0) refl refl re
 
 pub agreeing : (own sender : ℕ) → Agree own sender → otherId own sender ≡ false
 unfolding otherId
-agreeing own sender (inl e) = rw (eq-eqb own sender e)
-agreeing own sender (inr w) = go (not (eqb own sender)) w
-  where
-    go : (b : Bool) → (own ≡ 0) ⊎ (sender ≡ 0) → (b && (not (eqb own 0) && not (eqb sender 0))) ≡ false
-    go true (inl e) = rw (eq-eqb own 0 e)
-    go true (inr e) = rw (eq-eqb sender 0 e) (never (not (eqb own 0)))
-      where
-        never : (b : Bool) → (b && false) ≡ false
-        never true = refl
-        never false = refl
-    go false v = refl
+agreeing own sender (inl e) = rw (eq-eqb own sender e) (never (not (eqb own 0) && not (eqb sender 0)))
+agreeing own sender (inr (inl e)) = rw (eq-eqb own 0 e)
+agreeing own sender (inr (inr e)) = rw (eq-eqb sender 0 e, never (not (eqb own 0)))
 
 -- ---- what a first word says
 

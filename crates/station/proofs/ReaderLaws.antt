@@ -1,8 +1,8 @@
 -- What the answers of reading say that the station leans on. A Signal that was taken has its body inside the datagram, since its length
 -- is the filled size of what its data length says; and a refusal's number is at most 15, so it is never one of the station's own.
 -- Assumes nothing.
-use Prim.Native.Nat.{ℕ, _+_, _-_, _/_, _≤_, _<_}
-use mathlib.Core.Path.{_≡_, refl, sym, ap, _∙_, subst}
+use Prim.Native.Nat.{ℕ, _+_, _≤_}
+use mathlib.Core.Path.{_≡_, refl, subst}
 use mathlib.Core.Bool.{Bool, true, false, cond, _&&_}
 use mathlib.Core.List.{List, [], _∷_}
 use lib.ListN.{length}
@@ -15,7 +15,6 @@ use Rattle.wire.proofs.TableLaws.{both-true}
 use Rattle.pdu.specs.Records.{transmitterOf, signalOf}
 use Rattle.pdu.specs.Reading.{networkRules, bodyRules, transmitterRules, signalRules, readingRules, refusal, content, reading, bodySize}
 use Rattle.pdu.specs.declared.Signal.{Signal as Signal·record}
-use Rattle.pdu.specs.declared.Reading.{Reading}
 use Rattle.pdu.specs.declared.Reading.the-variants.{Refused, Transmitter, Signal}
 use Rattle.pdu.proofs.ReadingLaws.{taken-signal, signal-bits, signal-length}
 

@@ -13,7 +13,7 @@ use Rattle.pdu.specs.declared.Word.{Word}
 use Rattle.pdu.specs.declared.Word.the-variants.{Absent, Here}
 use Rattle.pdu.specs.declared.Reading.{Reading}
 use Rattle.pdu.specs.declared.Reading.the-variants.{Refused, Transmitter as aTransmitter, Signal as aSignal}
-use Rattle.station.specs.Numbers.{fine, coarseLevel, ppliLabel}
+use Rattle.station.specs.Numbers.{fine, anyId, coarseLevel, ppliLabel}
 use Rattle.station.specs.Units.{keyOf, unitAt, placeOf, known, withUnit, withNew}
 use Rattle.station.specs.declared.State.{State}
 use Rattle.station.specs.declared.State.the-variants.{Waiting, Coarse, Fine}
@@ -74,7 +74,7 @@ hearTransmitter s t = cond (known s (keyOf (t .header))) (renew s (placeOf s (ke
 
 -- 33: the IDs differ and neither is zero
 unfoldable pub otherId : ℕ → ℕ → Bool
-otherId own sender = not (eqb own sender) && (not (eqb own 0) && not (eqb sender 0))
+otherId own sender = not (eqb own anyId) && not (eqb sender anyId) && not (eqb own sender)
 
 -- the sender's entry
 abbrev pub senderOf : Station → Signal → Unit
@@ -110,7 +110,7 @@ bothCoarse own sender = eqb own coarseLevel && eqb sender coarseLevel
 
 -- "A zero station ID becomes the sender's ID"
 abbrev pub idAfter : ℕ → ℕ → ℕ
-idAfter own sender = cond (eqb own 0) sender own
+idAfter own sender = cond (eqb own anyId) sender own
 
 -- the station after a J0.0 from the sender u
 unfoldable pub afterJ00 : Station → Unit → Station

@@ -13,72 +13,51 @@ use Rattle.station.specs.Hearing.{hearSignal, step, firstWord, heard}
 use borrow.Author.Needs.{needs}
 use Rattle.station.proofs.hear.Statement.{statement}
 use Rattle.station.proofs.hear.Tie as tie
-use Rattle.station.proofs.hear.Reads as reads
-use Rattle.station.proofs.hear.Lts as lts
-use Rattle.pdu.proofs.read.Reads as read-reads
-use Rattle.pdu.proofs.words.at.Reads as at-reads
-use Rattle.station.proofs.hear_signal.signal.Reads as signal-reads
-use Rattle.station.proofs.hear_transmitter.transmitter.Reads as transmitter-reads
 
--- src/lib.rt:126:9
 read-requires : tie.Need-read-requires
 read-requires c κs = search needs
 
--- src/lib.rt:128:26
 enum-known-reading : tie.Need-enum-known-reading
 enum-known-reading c = search needs
 
--- src/lib.rt:129:30
 enum-known-reading-2 : tie.Need-enum-known-reading-2
 enum-known-reading-2 c = search needs
 
--- src/lib.rt:129:36
 transmitter-requires : tie.Need-transmitter-requires
 transmitter-requires c κs = search needs
 
--- src/lib.rt:130:25
 enum-known-reading-3 : tie.Need-enum-known-reading-3
 enum-known-reading-3 c = search needs
 
--- src/lib.rt:131:36
 cast-end : tie.Need-cast-end
 cast-end c = search needs
 
--- src/lib.rt:131:23
 add-end : tie.Need-add-end
 add-end c = search needs
 
--- src/lib.rt:132:39
 sub-at : tie.Need-sub-at
 sub-at c = search needs
 
--- src/lib.rt:132:39
 part-at-start : tie.Need-part-at-start
 part-at-start c = search needs
 
--- src/lib.rt:132:39
 part-at-end : tie.Need-part-at-end
 part-at-end c = omega (arith, body-fits (now (c .before .before .before .before .before .args .datagram)) (c .before .reading3 .given .0 .0) (c .before .reading3 .given .0 .1 .0) (sym (c .before .before .before .read .ensures) ∙ c .before .reading3 .given .1) .fits)
 
--- src/lib.rt:132:17
 at-requires : tie.Need-at-requires
 at-requires c κs = search needs
 
--- src/lib.rt:133:13
 signal-requires : tie.Need-signal-requires
 signal-requires c κs = search needs
 
--- src/lib.rt:123:1
 returns : tie.Need-returns
 unfolding heard step
 returns c = sym (ap (λ (r : Reading). step (c .before .before .before .before .before .args .station) r (firstWord (now (c .before .before .before .before .before .args .datagram)))) (sym (c .before .before .before .read .ensures) ∙ c .before .reading .given .1))
 
--- src/lib.rt:123:1
 returns-2 : tie.Need-returns-2
 unfolding heard step
 returns-2 c = c .transmitter .ensures ∙ sym (ap (λ (r : Reading). step (c .before .before .before .before .before .before .args .station) r (firstWord (now (c .before .before .before .before .before .before .args .datagram)))) (sym (c .before .before .before .before .read .ensures) ∙ c .before .before .reading2 .given .1))
 
--- src/lib.rt:123:1
 returns-3 : tie.Need-returns-3
 unfolding heard step
 returns-3 c =

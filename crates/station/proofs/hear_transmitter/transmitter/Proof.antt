@@ -7,35 +7,23 @@ use Rattle.station.specs.Hearing.{hearTransmitter}
 use borrow.Author.Needs.{needs}
 use Rattle.station.proofs.hear_transmitter.transmitter.Statement.{statement}
 use Rattle.station.proofs.hear_transmitter.transmitter.Tie as tie
-use Rattle.station.proofs.hear_transmitter.transmitter.Reads as reads
-use Rattle.station.proofs.hear_transmitter.transmitter.Lts as lts
-use Rattle.station.proofs.hear_transmitter.enter_unit.Reads as enter-unit-reads
-use Rattle.station.proofs.hear_transmitter.renew_unit.Reads as renew-unit-reads
-use Rattle.station.proofs.key_of.Reads as key-of-reads
-use Rattle.station.proofs.places.place_of.Reads as place-of-reads
 
--- src/hear_transmitter.rt:75:33
 key-of-requires : tie.Need-key-of-requires
 key-of-requires c κs = search needs
 
--- src/hear_transmitter.rt:75:9
 place-of-requires : tie.Need-place-of-requires
 place-of-requires c κs = search needs
 
--- src/hear_transmitter.rt:77:9
 renew-unit-requires : tie.Need-renew-unit-requires
 renew-unit-requires c κs = search needs
 
--- src/hear_transmitter.rt:79:9
 enter-unit-requires : tie.Need-enter-unit-requires
 enter-unit-requires c κs = search needs
 
--- src/hear_transmitter.rt:72:1
 returns : tie.Need-returns
 unfolding hearTransmitter
 returns c = rw (← (c .before .before .place-of .ensures ∙ ap (placeOf (c .before .before .before .before .args .s)) (c .before .before .before .key-of .ensures)), lt-ltb (c .before .before .place-of .result) 16 (c .before .if1 .taken)) (c .renew-unit .ensures)
 
--- src/hear_transmitter.rt:72:1
 returns-2 : tie.Need-returns-2
 unfolding hearTransmitter
 returns-2 c = rw (← (c .before .before .place-of .ensures ∙ ap (placeOf (c .before .before .before .before .args .s)) (c .before .before .before .key-of .ensures)), le-ltb (c .before .before .place-of .result) 16 (c .before .if1 .left)) (c .enter-unit .ensures)

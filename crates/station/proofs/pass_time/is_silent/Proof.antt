@@ -1,5 +1,6 @@
 -- Before the second last heard no time has passed, so the unit is not silent; after it the test is the rule itself.
 -- Assumes nothing.
+use Rattle.station.specs.Numbers.{absence}
 use mathlib.Core.Path.{sym}
 use Prim.Native.Nat.{_-_}
 use native.Mathlib.Omega.{arith}
@@ -7,14 +8,10 @@ use borrow.Author.Tests.{lt-leb}
 use borrow.Author.Needs.{needs}
 use Rattle.station.proofs.pass_time.is_silent.Statement.{statement}
 use Rattle.station.proofs.pass_time.is_silent.Tie as tie
-use Rattle.station.proofs.pass_time.is_silent.Reads as reads
-use Rattle.station.proofs.pass_time.is_silent.Lts as lts
 
--- src/pass_time.rt:14:9
 returns : tie.Need-returns
-returns c = sym (lt-leb 60 (c .before .args .t - c .before .args .last) (omega arith))
+returns c = sym (lt-leb absence (c .before .args .t - c .before .args .last) (omega arith))
 
--- src/pass_time.rt:10:1
 returns-2 : tie.Need-returns-2
 returns-2 c = search needs
 
