@@ -3,7 +3,7 @@
 -- Assumes nothing.
 use Prim.Native.Nat.{ℕ, _<_, _≤_}
 use mathlib.Core.Path.{_≡_, refl, sym, ap, _∙_}
-use mathlib.Core.Bool.{Bool, true, false, cond, not, _&&_, true≢false}
+use mathlib.Core.Bool.{Bool, true, false, cond, not, _&&_, _||_, true≢false}
 use mathlib.Core.Logic.{_⊎_, inl, inr}
 use lib.Dec.{eqb, ltb}
 use borrow.Author.Tests.{eqb-true, eqb-false, eq-eqb, ltb-true, ltb-false, not-true, not-false}
@@ -82,10 +82,6 @@ none-free s e i l =
 
 -- ---- which IDs agree
 
-pub never : (b : Bool) → (b && false) ≡ false
-never true = refl
-never false = refl
-
 -- The IDs are the same, or one of them is zero.
 abbrev pub Agree : ℕ → ℕ → Type 0
 Agree own sender = (own ≡ sender) ⊎ ((own ≡ 0) ⊎ (sender ≡ 0))
@@ -96,19 +92,21 @@ Clash own sender = (own ≡ sender → ⊥) × (own ≡ 0 → ⊥) × (sender �
 
 pub clash : (own sender : ℕ) → otherId own sender ≡ true → Clash own sender
 unfolding otherId
-clash own sender e =
-    let apart = both-true (not (eqb own 0) && not (eqb sender 0)) (not (eqb own sender)) e in
-    let given = both-true (not (eqb own 0)) (not (eqb sender 0)) (apart .0) in (
-      eqb-false own sender (not-true (eqb own sender) (apart .1)),
-      eqb-false own 0 (not-true (eqb own 0) (given .0)),
-      eqb-false sender 0 (not-true (eqb sender 0) (given .1)),
-    )
+clash own sender e = go (eqb own sender) (eqb own 0) (eqb sender 0) refl refl refl e
+  where
+    go : (a b c : Bool) → eqb own sender ≡ a → eqb own 0 ≡ b → eqb sender 0 ≡ c → (not (b || c) && not a) ≡ true → Clash own sender
+    go true true c x y z f = absurd (true≢false (sym f))
+    go true false true x y z f = absurd (true≢false (sym f))
+    go true false false x y z f = absurd (true≢false (sym f))
+    go false true c x y z f = absurd (true≢false (sym f))
+    go false false true x y z f = absurd (true≢false (sym f))
+    go false false false x y z f = (eqb-false own sender x, eqb-false own 0 y, eqb-false sender 0 z)
 
 pub agree : (own sender : ℕ) → otherId own sender ≡ false → Agree own sender
 unfolding otherId
 agree own sender e = go (eqb own sender) (eqb own 0) (eqb sender 0) refl refl refl e
   where
-    go : (a b c : Bool) → eqb own sender ≡ a → eqb own 0 ≡ b → eqb sender 0 ≡ c → (not b && not c && not a) ≡ false → Agree own sender
+    go : (a b c : Bool) → eqb own sender ≡ a → eqb own 0 ≡ b → eqb sender 0 ≡ c → (not (b || c) && not a) ≡ false → Agree own sender
     go true b c x y z f = inl (eqb-true own sender x)
     go false true c x y z f = inr (inl (eqb-true own 0 y))
     go false false true x y z f = inr (inr (eqb-true sender 0 z))
@@ -116,9 +114,17 @@ agree own sender e = go (eqb own sender) (eqb own 0) (eqb sender 0) refl refl re
 
 pub agreeing : (own sender : ℕ) → Agree own sender → otherId own sender ≡ false
 unfolding otherId
-agreeing own sender (inl e) = rw (eq-eqb own sender e) (never (not (eqb own 0) && not (eqb sender 0)))
-agreeing own sender (inr (inl e)) = rw (eq-eqb own 0 e)
-agreeing own sender (inr (inr e)) = rw (eq-eqb sender 0 e, never (not (eqb own 0)))
+agreeing own sender w = go (eqb own sender) (eqb own 0) (eqb sender 0) refl refl refl w
+  where
+    go : (a b c : Bool) → eqb own sender ≡ a → eqb own 0 ≡ b → eqb sender 0 ≡ c → Agree own sender → (not (b || c) && not a) ≡ false
+    go true true c x y z f = refl
+    go true false true x y z f = refl
+    go true false false x y z f = refl
+    go false true c x y z f = refl
+    go false false true x y z f = refl
+    go false false false x y z (inl f) = absurd (eqb-false own sender x f)
+    go false false false x y z (inr (inl f)) = absurd (eqb-false own 0 y f)
+    go false false false x y z (inr (inr f)) = absurd (eqb-false sender 0 z f)
 
 -- ---- what a first word says
 

@@ -1,6 +1,6 @@
 -- What a datagram does to a station, and what the call answers. Answers are document 01's numbers: the reader's own, 30 to 35, and 40 to 44.
 use Prim.Native.Nat.{ℕ}
-use mathlib.Core.Bool.{Bool, true, false, cond, not, _&&_}
+use mathlib.Core.Bool.{Bool, true, false, cond, not, _&&_, _||_}
 use mathlib.Core.List.{List, [], _∷_}
 use lib.Dec.{eqb, ltb}
 use Rattle.wire.specs.First.{Refusal, _given-when_, first}
@@ -74,7 +74,7 @@ hearTransmitter s t = cond (known s (keyOf (t .header))) (renew s (placeOf s (ke
 
 -- 33: the IDs differ and neither is zero
 unfoldable pub otherId : ℕ → ℕ → Bool
-otherId own sender = not (eqb own anyId) && not (eqb sender anyId) && not (eqb own sender)
+otherId own sender = not (eqb own anyId || eqb sender anyId) && not (eqb own sender)
 
 -- the sender's entry
 abbrev pub senderOf : Station → Signal → Unit

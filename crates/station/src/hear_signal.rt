@@ -23,10 +23,7 @@ const PPLI_LABEL: u8 = 2;
 fn other_id(own: u32, sender: u32) -> bool
     ensures { λ r. ⌜ r ≡ otherId own sender ⌝ }
 {
-    if own == ANY_ID {
-        return false;
-    }
-    if sender == ANY_ID {
+    if wire::either(own == ANY_ID, sender == ANY_ID) {
         return false;
     }
     own != sender
