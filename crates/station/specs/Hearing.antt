@@ -67,6 +67,7 @@ enter s t =
 unfoldable pub renew : Station → ℕ → Transmitter → Heard
 renew s i t = answering 41 (withUnit s i (renewed (unitAt s i) t))
 
+-- "Transmitter, key unknown: ..", "Key known: .."
 unfoldable pub hearTransmitter : Station → Transmitter → Heard
 hearTransmitter s t = cond (known s (keyOf (t .header))) (renew s (placeOf s (keyOf (t .header))) t) (enter s t)
 
@@ -154,6 +155,7 @@ hearMessage s i NetEntry = unless s (notFine (unitAt s i) ∷ []) (answering 42 
 hearMessage s i Ppli = unless s (notFine (unitAt s i) ∷ []) (answering 43 (afterPpli s i))
 hearMessage s i Other = unless s (notIn s (unitAt s i) ∷ []) (answering 44 s)
 
+-- a Signal and the first word of its body: "31", "32", "33", "Then, by the first word"
 unfoldable pub hearSignal : Station → Signal → Word → Heard
 hearSignal s g w =
     unless s (signalRules s g)

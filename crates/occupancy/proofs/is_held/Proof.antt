@@ -1,4 +1,4 @@
--- Place i is held exactly where bit i is 1: the power of two is the divisor that bit i is read by.
+-- The test is the definition of a held place. Place i is held exactly where bit i is 1: the power of two is the divisor that bit i is read by.
 -- Assumes nothing.
 use Prim.Native.Nat.{ℕ, _/_, _%_, _<_}
 use mathlib.Core.Path.{sym, ap, subst}

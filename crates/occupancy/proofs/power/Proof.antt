@@ -1,4 +1,4 @@
--- The bit shifted up by i is 2 ^ i: i is below 16, so nothing is shifted out.
+-- The word has one place held. The bit shifted up by i is 2 ^ i: i is below 16, so nothing is shifted out.
 -- Assumes nothing.
 use Prim.Native.Nat.{_^_, _*_}
 use mathlib.Core.Path.{_≡_}

@@ -1,4 +1,4 @@
--- Taking a free place adds its power of two, and the sum is still a word of sixteen places.
+-- The word has the place taken. Taking a free place adds its power of two, and the sum is still a word of sixteen places.
 -- Assumes nothing.
 use Prim.Native.Nat.{ℕ, _+_, _<_}
 use mathlib.Core.Path.{sym, ap, subst}

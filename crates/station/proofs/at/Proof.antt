@@ -1,4 +1,4 @@
--- A place shows its entry exactly where it is one of the sixteen and held.
+-- What a place shows is the definition's. A place shows its entry exactly where it is one of the sixteen and held.
 -- Assumes nothing.
 use Rattle.station.specs.Units.{placeAt}
 use mathlib.Core.Path.{sym, _∙_}

@@ -1,4 +1,4 @@
--- The test on the clock decides between 36 and the station at the new time.
+-- The clock call answers and leaves what the rule says. The test on the clock decides between 36 and the station at the new time.
 -- Assumes nothing.
 use mathlib.Core.Path.{ap}
 use borrow.Author.Tests.{lt-ltb, le-ltb}

@@ -1,4 +1,4 @@
--- The fresh station is the one that is written out.
+-- The maker's station is the fresh one. The fresh station is the one that is written out.
 -- Assumes nothing.
 use mathlib.Core.Path.{refl}
 use Rattle.station.specs.Units.{fresh}

@@ -1,4 +1,4 @@
--- Each arm is one answer of reading. A Signal's body lies within the datagram, and its first word is the one that the rule asks for.
+-- The call on a datagram answers and leaves what the rules say of every reading. Each arm is one answer of reading. A Signal's body lies within the datagram, and its first word is the one that the rule asks for.
 -- Assumes nothing.
 use mathlib.Core.Path.{_≡_, sym, ap, _∙_}
 use native.Mathlib.Omega.{arith}
@@ -42,7 +42,9 @@ part-at-start : tie.Need-part-at-start
 part-at-start c = search needs
 
 part-at-end : tie.Need-part-at-end
-part-at-end c = omega (arith, body-fits (now (c .before .before .before .before .before .args .datagram)) (c .before .reading3 .given .0 .0) (c .before .reading3 .given .0 .1 .0) (sym (c .before .before .before .read .ensures) ∙ c .before .reading3 .given .1) .fits)
+part-at-end c =
+    let e = sym (c .before .before .before .read .ensures) ∙ c .before .reading3 .given .1 in
+    omega (arith, body-fits (now (c .before .before .before .before .before .args .datagram)) (c .before .reading3 .given .0 .0) (c .before .reading3 .given .0 .1 .0) e .fits)
 
 at-requires : tie.Need-at-requires
 at-requires c κs = search needs
@@ -52,21 +54,32 @@ signal-requires c κs = search needs
 
 returns : tie.Need-returns
 unfolding heard step
-returns c = sym (ap (λ (r : Reading). step (c .before .before .before .before .before .args .station) r (firstWord (now (c .before .before .before .before .before .args .datagram)))) (sym (c .before .before .before .read .ensures) ∙ c .before .reading .given .1))
+returns c =
+    let s = c .before .before .before .before .before .args .station in
+    let d = now (c .before .before .before .before .before .args .datagram) in
+    let e = sym (c .before .before .before .read .ensures) ∙ c .before .reading .given .1 in
+    sym (ap (λ (r : Reading). step s r (firstWord d)) e)
 
 returns-2 : tie.Need-returns-2
 unfolding heard step
-returns-2 c = c .transmitter .ensures ∙ sym (ap (λ (r : Reading). step (c .before .before .before .before .before .before .args .station) r (firstWord (now (c .before .before .before .before .before .before .args .datagram)))) (sym (c .before .before .before .before .read .ensures) ∙ c .before .before .reading2 .given .1))
+returns-2 c =
+    let s = c .before .before .before .before .before .before .args .station in
+    let d = now (c .before .before .before .before .before .before .args .datagram) in
+    let e = sym (c .before .before .before .before .read .ensures) ∙ c .before .before .reading2 .given .1 in
+    c .transmitter .ensures ∙ sym (ap (λ (r : Reading). step s r (firstWord d)) e)
 
 returns-3 : tie.Need-returns-3
 unfolding heard step
 returns-3 c =
-    let n = c .before .before .before .before .reading3 .given .0 .1 .0 in
+    let s = c .before .before .before .before .before .before .before .before .args .station in
     let d = now (c .before .before .before .before .before .before .before .before .args .datagram) in
-    let body : 52 + n - 52 ≡ bodySize d = omega (arith, body-fits (now (c .before .before .before .before .before .before .before .before .args .datagram)) (c .before .before .before .before .reading3 .given .0 .0) (c .before .before .before .before .reading3 .given .0 .1 .0) (sym (c .before .before .before .before .before .before .read .ensures) ∙ c .before .before .before .before .reading3 .given .1) .size) in
+    let e = sym (c .before .before .before .before .before .before .read .ensures) ∙ c .before .before .before .before .reading3 .given .1 in
+    let g = c .before .before .before .before .reading3 .given .0 .0 in
+    let n = c .before .before .before .before .reading3 .given .0 .1 .0 in
+    let body : 52 + n - 52 ≡ bodySize d = omega (arith, body-fits d g n e .size) in
     c .signal .ensures
-    ∙ ap (hearSignal (c .before .before .before .before .before .before .before .before .args .station) (c .before .before .before .before .reading3 .given .0 .0)) (c .before .at .ensures ∙ ap (λ (k : ℕ). wordAt (take k (drop 52 d)) 0) body)
-    ∙ sym (ap (λ (r : Reading). step (c .before .before .before .before .before .before .before .before .args .station) r (firstWord (now (c .before .before .before .before .before .before .before .before .args .datagram)))) (sym (c .before .before .before .before .before .before .read .ensures) ∙ c .before .before .before .before .reading3 .given .1))
+    ∙ ap (hearSignal s g) (c .before .at .ensures ∙ ap (λ (k : ℕ). wordAt (take k (drop 52 d)) 0) body)
+    ∙ sym (ap (λ (r : Reading). step s r (firstWord d)) e)
 
 pub hear-spec : {M : Type 1} → statement M
 hear-spec =

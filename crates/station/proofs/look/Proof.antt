@@ -1,4 +1,4 @@
--- The key is known exactly where its place is below 16, and the entry there is the one shown.
+-- What is known of a key is the definition's. The key is known exactly where its place is below 16, and the entry there is the one shown.
 -- Assumes nothing.
 use borrow.Author.Tests.{lt-ltb, le-ltb}
 use Rattle.station.specs.Units.{seenOf}

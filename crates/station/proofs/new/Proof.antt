@@ -1,4 +1,4 @@
--- The joined test of level and net decides between 37 and the station asked for.
+-- The maker answers 0 or 37, with the station that goes with it. The joined test of level and net decides between 37 and the station asked for.
 -- Assumes nothing.
 use mathlib.Core.Path.{sym, _∙_}
 use Rattle.station.specs.Units.{made}

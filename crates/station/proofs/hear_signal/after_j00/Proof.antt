@@ -1,4 +1,4 @@
--- The ID and the state are those of the rule, and every other field is the station's own.
+-- The station after a J0.0 is the rule's. The ID and the state are those of the rule, and every other field is the station's own.
 -- Assumes nothing.
 use Rattle.station.specs.Hearing.{afterJ00}
 use borrow.Author.Needs.{needs}

@@ -1,4 +1,4 @@
--- A zero ID becomes the sender's, by the test on the ID.
+-- The ID after a J0.0 is the rule's. A zero ID becomes the sender's, by the test on the ID.
 -- Assumes nothing.
 use Rattle.station.specs.Numbers.{anyId}
 use borrow.Author.Tests.{eq-eqb, ne-eqb}

@@ -1,4 +1,4 @@
--- Each return is one case of the label, by the tests that led there.
+-- What an initial word says is the definition's. Each return is one case of the label, by the tests that led there.
 -- Assumes nothing.
 use Rattle.station.specs.Numbers.{ppliLabel}
 use Rattle.station.specs.Hearing.{labelled}

@@ -1,4 +1,4 @@
--- An absent word, and a word that is not initial or not of type 0, say nothing; any other word says what its label says.
+-- What a Signal says is the definition's. An absent word, and a word that is not initial or not of type 0, say nothing; any other word says what its label says.
 -- Assumes nothing.
 use Rattle.station.specs.Hearing.{messageOf}
 use mathlib.Core.Path.{sym, ap, _∙_}

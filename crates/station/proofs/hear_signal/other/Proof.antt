@@ -1,4 +1,4 @@
--- The joined test decides between 44 and 35; neither changes the station.
+-- All else is answered 44 or 35. The joined test decides between 44 and 35; neither changes the station.
 -- Assumes nothing.
 use mathlib.Core.Path.{sym, ap, _∙_}
 use mathlib.Core.Bool.{Bool, not, _&&_}
@@ -22,11 +22,17 @@ both-requires c κs = search needs
 
 returns : tie.Need-returns
 unfolding hearMessage
-returns c = rw (ap not (sym (c .before .both .ensures ∙ ap (λ (b : Bool). unitAt (c .before .before .before .before .args .t1) (c .before .before .before .before .args .i) .inside && b) (c .before .before .is-fine .ensures)) ∙ c .if1 .taken))
+returns c =
+    let inside = unitAt (c .before .before .before .before .args .t1) (c .before .before .before .before .args .i) .inside in
+    let test = c .before .both .ensures ∙ ap (λ (b : Bool). inside && b) (c .before .before .is-fine .ensures) in
+    rw (ap not (sym test ∙ c .if1 .taken))
 
 returns-2 : tie.Need-returns-2
 unfolding hearMessage
-returns-2 c = rw (ap not (sym (c .before .both .ensures ∙ ap (λ (b : Bool). unitAt (c .before .before .before .before .args .t1) (c .before .before .before .before .args .i) .inside && b) (c .before .before .is-fine .ensures)) ∙ c .if1 .left))
+returns-2 c =
+    let inside = unitAt (c .before .before .before .before .args .t1) (c .before .before .before .before .args .i) .inside in
+    let test = c .before .both .ensures ∙ ap (λ (b : Bool). inside && b) (c .before .before .is-fine .ensures) in
+    rw (ap not (sym test ∙ c .if1 .left))
 
 pub other-spec : {M : Type 1} → statement M
 other-spec =

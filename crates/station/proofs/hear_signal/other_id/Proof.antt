@@ -1,4 +1,4 @@
--- An ID that matches all decides at once; otherwise the two are compared.
+-- The test of 33 is the rule. An ID that matches all decides at once; otherwise the two are compared.
 -- Assumes nothing.
 use mathlib.Core.Path.{sym, _∙_}
 use Rattle.station.specs.Hearing.{otherId}

@@ -1,4 +1,4 @@
--- The test on the sender's state decides between 34 and the change of a PPLI.
+-- A PPLI is answered 34 or 43, with the station that goes with it. The test on the sender's state decides between 34 and the change of a PPLI.
 -- Assumes nothing.
 use Rattle.pdu.proofs.ReadingLaws.{differs, agrees}
 use mathlib.Core.Path.{ap, _∙_}

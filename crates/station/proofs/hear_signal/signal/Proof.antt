@@ -1,4 +1,4 @@
--- Each return is the first rule that applies, by the tests that led there; past all three the message decides.
+-- A Signal is answered by the first rule that applies, or by its message. Each return is the first rule that applies, by the tests that led there; past all three the message decides.
 -- Assumes nothing.
 use mathlib.Core.Path.{sym, ap, _∙_}
 use Rattle.pdu.proofs.ReadingLaws.{differs, agrees}
@@ -17,11 +17,20 @@ place-of-requires c κs = search needs
 
 returns : tie.Need-returns
 unfolding hearSignal signalRules
-returns c = rw (← (c .before .place-of .ensures ∙ ap (placeOf (c .before .before .before .args .t1)) (c .before .before .key-of .ensures)), le-ltb (c .before .place-of .result) 16 (c .if1 .taken))
+returns c =
+    let s = c .before .before .before .args .t1 in
+    let i = c .before .place-of .result in
+    let at = c .before .place-of .ensures ∙ ap (placeOf s) (c .before .before .key-of .ensures) in
+    rw (← at, le-ltb i 16 (c .if1 .taken))
 
 returns-2 : tie.Need-returns-2
 unfolding hearSignal signalRules
-returns-2 c = rw (← (c .before .before .before .place-of .ensures ∙ ap (placeOf (c .before .before .before .before .before .args .t1)) (c .before .before .before .before .key-of .ensures)), lt-ltb (c .before .before .before .place-of .result) 16 (c .before .before .if1 .left), differs (c .before .before .before .before .before .args .g .network .net) (c .before .before .before .before .before .args .t1 .net) (c .if2 .taken))
+returns-2 c =
+    let s = c .before .before .before .before .before .args .t1 in
+    let g = c .before .before .before .before .before .args .g in
+    let i = c .before .before .before .place-of .result in
+    let at = c .before .before .before .place-of .ensures ∙ ap (placeOf s) (c .before .before .before .before .key-of .ensures) in
+    rw (← at, lt-ltb i 16 (c .before .before .if1 .left), differs (g .network .net) (s .net) (c .if2 .taken))
 
 mul-u : tie.Need-mul-u
 mul-u c = search needs
@@ -34,7 +43,12 @@ other-id-requires c κs = search needs
 
 returns-3 : tie.Need-returns-3
 unfolding hearSignal signalRules
-returns-3 c = rw (← (c .before .before .before .before .before .before .place-of .ensures ∙ ap (placeOf (c .before .before .before .before .before .before .before .before .args .t1)) (c .before .before .before .before .before .before .before .key-of .ensures)), lt-ltb (c .before .before .before .before .before .before .place-of .result) 16 (c .before .before .before .before .before .if1 .left), agrees (c .before .before .before .before .before .before .before .before .args .g .network .net) (c .before .before .before .before .before .before .before .before .args .t1 .net) (c .before .before .before .if2 .left), sym (c .before .other-id .ensures) ∙ c .if3 .taken)
+returns-3 c =
+    let s = c .before .before .before .before .before .before .before .before .args .t1 in
+    let g = c .before .before .before .before .before .before .before .before .args .g in
+    let i = c .before .before .before .before .before .before .place-of .result in
+    let at = c .before .before .before .before .before .before .place-of .ensures ∙ ap (placeOf s) (c .before .before .before .before .before .before .before .key-of .ensures) in
+    rw (← at, lt-ltb i 16 (c .before .before .before .before .before .if1 .left), agrees (g .network .net) (s .net) (c .before .before .before .if2 .left), sym (c .before .other-id .ensures) ∙ c .if3 .taken)
 
 message-requires : tie.Need-message-requires
 message-requires c κs = search needs
@@ -44,7 +58,12 @@ taken-requires c κs = search needs
 
 returns-4 : tie.Need-returns-4
 unfolding hearSignal signalRules
-returns-4 c = rw (← (c .before .before .before .before .before .before .before .before .place-of .ensures ∙ ap (placeOf (c .before .before .before .before .before .before .before .before .before .before .args .t1)) (c .before .before .before .before .before .before .before .before .before .key-of .ensures)), lt-ltb (c .before .before .before .before .before .before .before .before .place-of .result) 16 (c .before .before .before .before .before .before .before .if1 .left), agrees (c .before .before .before .before .before .before .before .before .before .before .args .g .network .net) (c .before .before .before .before .before .before .before .before .before .before .args .t1 .net) (c .before .before .before .before .before .if2 .left), sym (c .before .before .before .other-id .ensures) ∙ c .before .before .if3 .left) (c .taken .ensures ∙ ap (hearMessage (c .before .before .before .before .before .before .before .before .before .before .args .t1) (c .before .before .before .before .before .before .before .before .place-of .result)) (c .before .message .ensures))
+returns-4 c =
+    let s = c .before .before .before .before .before .before .before .before .before .before .args .t1 in
+    let g = c .before .before .before .before .before .before .before .before .before .before .args .g in
+    let i = c .before .before .before .before .before .before .before .before .place-of .result in
+    let at = c .before .before .before .before .before .before .before .before .place-of .ensures ∙ ap (placeOf s) (c .before .before .before .before .before .before .before .before .before .key-of .ensures) in
+    rw (← at, lt-ltb i 16 (c .before .before .before .before .before .before .before .if1 .left), agrees (g .network .net) (s .net) (c .before .before .before .before .before .if2 .left), sym (c .before .before .before .other-id .ensures) ∙ c .before .before .if3 .left) (c .taken .ensures ∙ ap (hearMessage s i) (c .before .message .ensures))
 
 pub signal-spec : {M : Type 1} → statement M
 signal-spec =

@@ -1,4 +1,4 @@
--- Each arm is one message, and its callee promises that message's outcome.
+-- A message that passed has its own outcome. Each arm is one message, and its callee promises that message's outcome.
 -- Assumes nothing.
 use mathlib.Core.Path.{sym, ap, _∙_}
 use Rattle.station.specs.Hearing.{hearMessage}

@@ -1,4 +1,4 @@
--- The lowest free place is 16 exactly where none is free; below 16 it is free, and the new entry goes there.
+-- A first Transmitter is answered 40 with its entry made, or 30. The lowest free place is 16 exactly where none is free; below 16 it is free, and the new entry goes there.
 -- Assumes nothing.
 use mathlib.Core.Path.{_≡_, sym, ap, subst, _∙_}
 use mathlib.Core.Bool.{false, not}

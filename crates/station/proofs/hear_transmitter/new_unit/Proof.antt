@@ -1,4 +1,4 @@
--- The key is the promised one, and every other field is copied.
+-- The new entry is the rule's. The key is the promised one, and every other field is copied.
 -- Assumes nothing.
 use borrow.Author.Needs.{needs}
 use Rattle.station.proofs.hear_transmitter.new_unit.Statement.{statement}

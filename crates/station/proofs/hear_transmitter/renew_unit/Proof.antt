@@ -1,4 +1,4 @@
--- The renewed entry goes back into its own place.
+-- A further Transmitter is answered 41 with its entry renewed. The renewed entry goes back into its own place.
 -- Assumes nothing.
 use mathlib.Core.Path.{ap, _∙_}
 use Rattle.station.specs.Units.{withUnit}

@@ -1,4 +1,4 @@
--- In is kept by the joined test, and every other field is copied.
+-- The renewed entry is the rule's. In is kept by the joined test, and every other field is copied.
 -- Assumes nothing.
 use borrow.Author.Needs.{needs}
 use Rattle.station.proofs.hear_transmitter.renewed_unit.Statement.{statement}

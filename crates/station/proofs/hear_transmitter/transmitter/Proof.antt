@@ -1,4 +1,4 @@
--- The key is known exactly where its place is below 16.
+-- A Transmitter renews its entry or makes one. The key is known exactly where its place is below 16.
 -- Assumes nothing.
 use mathlib.Core.Path.{ap, _∙_}
 use borrow.Author.Tests.{lt-ltb, le-ltb}
@@ -22,11 +22,15 @@ enter-unit-requires c κs = search needs
 
 returns : tie.Need-returns
 unfolding hearTransmitter
-returns c = rw (← (c .before .before .place-of .ensures ∙ ap (placeOf (c .before .before .before .before .args .s)) (c .before .before .before .key-of .ensures)), lt-ltb (c .before .before .place-of .result) 16 (c .before .if1 .taken)) (c .renew-unit .ensures)
+returns c =
+    let at = c .before .before .place-of .ensures ∙ ap (placeOf (c .before .before .before .before .args .s)) (c .before .before .before .key-of .ensures) in
+    rw (← at, lt-ltb (c .before .before .place-of .result) 16 (c .before .if1 .taken)) (c .renew-unit .ensures)
 
 returns-2 : tie.Need-returns-2
 unfolding hearTransmitter
-returns-2 c = rw (← (c .before .before .place-of .ensures ∙ ap (placeOf (c .before .before .before .before .args .s)) (c .before .before .before .key-of .ensures)), le-ltb (c .before .before .place-of .result) 16 (c .before .if1 .left)) (c .enter-unit .ensures)
+returns-2 c =
+    let at = c .before .before .place-of .ensures ∙ ap (placeOf (c .before .before .before .before .args .s)) (c .before .before .before .key-of .ensures) in
+    rw (← at, le-ltb (c .before .before .place-of .result) 16 (c .before .if1 .left)) (c .enter-unit .ensures)
 
 pub transmitter-spec : {M : Type 1} → statement M
 transmitter-spec =

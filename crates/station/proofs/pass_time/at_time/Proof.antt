@@ -1,4 +1,4 @@
--- The word is rebuilt and the clock set; every other field is the station's own.
+-- The station at a time is the definition's. The word is rebuilt and the clock set; every other field is the station's own.
 -- Assumes nothing.
 use Rattle.station.specs.Clock.{atTime}
 use borrow.Author.Needs.{needs}

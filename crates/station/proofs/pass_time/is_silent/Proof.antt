@@ -1,4 +1,4 @@
--- The seconds gone by are the promised ones, and the test on them is the rule itself.
+-- The test of absence is the rule. The seconds gone by are the promised ones, and the test on them is the rule itself.
 -- Assumes nothing.
 use borrow.Author.Needs.{needs}
 use Rattle.station.proofs.pass_time.is_silent.Statement.{statement}

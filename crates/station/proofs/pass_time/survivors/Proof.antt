@@ -1,4 +1,4 @@
--- The loop builds the word upward: after i turns it holds exactly the places below i that stay.
+-- The word built is that of the places that stay. The loop builds the word upward: after i turns it holds exactly the places below i that stay.
 -- The measure is the places left.
 -- Assumes nothing.
 use mathlib.Core.Path.{_≡_, refl, sym, ap, ap₂, subst, _∙_}

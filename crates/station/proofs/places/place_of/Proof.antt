@@ -1,4 +1,4 @@
--- The loop passes only places that are not held with the key, and stops at the first that is: that is the least.
+-- The place found is the least that is held with the key. The loop passes only places that are not held with the key, and stops at the first that is: that is the least.
 -- The measure is the places left.
 -- Assumes nothing.
 use mathlib.Core.Path.{_≡_, sym, ap, _∙_}
@@ -35,7 +35,9 @@ both-requires c κs = tt
 
 returns : tie.Need-returns Inv-loop μ-loop
 unfolding placeOf
-returns c = sym (least-is (holds (c .before .before .before .before .before .before .before .args .t1) (c .before .before .before .before .before .before .before .args .key)) 16 (c .before .before .before .before .before .before .loop .i) (c .before .before .before .before .before .before .loop .inv .0) (c .before .before .before .before .before .before .loop .inv .1) (λ _. sym (c .before .both .ensures ∙ ap (λ (b : Bool). b && eqb (unitAt (c .before .before .before .before .before .before .before .args .t1) (c .before .before .before .before .before .before .loop .i) .key) (c .before .before .before .before .before .before .before .args .key)) (c .before .before .before .is-held .ensures)) ∙ c .if1 .taken))
+returns c =
+    let test = c .before .both .ensures ∙ ap (λ (b : Bool). b && eqb (unitAt (c .before .before .before .before .before .before .before .args .t1) (c .before .before .before .before .before .before .loop .i) .key) (c .before .before .before .before .before .before .before .args .key)) (c .before .before .before .is-held .ensures) in
+    sym (least-is (holds (c .before .before .before .before .before .before .before .args .t1) (c .before .before .before .before .before .before .before .args .key)) 16 (c .before .before .before .before .before .before .loop .i) (c .before .before .before .before .before .before .loop .inv .0) (c .before .before .before .before .before .before .loop .inv .1) (λ _. sym test ∙ c .if1 .taken))
 
 add-i : tie.Need-add-i Inv-loop μ-loop
 add-i c = omega arith
@@ -44,7 +46,9 @@ loop-less : tie.Need-loop-less Inv-loop μ-loop
 loop-less c = omega arith
 
 loop-again : tie.Need-loop-again Inv-loop μ-loop
-loop-again c = (omega arith, below-more _ _ (c .before .before .before .before .before .before .loop .inv .1) (sym (c .before .both .ensures ∙ ap (λ (b : Bool). b && eqb (unitAt (c .before .before .before .before .before .before .before .args .t1) (c .before .before .before .before .before .before .loop .i) .key) (c .before .before .before .before .before .before .before .args .key)) (c .before .before .before .is-held .ensures)) ∙ c .if1 .left))
+loop-again c =
+    let test = c .before .both .ensures ∙ ap (λ (b : Bool). b && eqb (unitAt (c .before .before .before .before .before .before .before .args .t1) (c .before .before .before .before .before .before .loop .i) .key) (c .before .before .before .before .before .before .before .args .key)) (c .before .before .before .is-held .ensures) in
+    (omega arith, below-more _ _ (c .before .before .before .before .before .before .loop .inv .1) (sym test ∙ c .if1 .left))
 
 returns-2 : tie.Need-returns-2 Inv-loop μ-loop
 unfolding placeOf

@@ -1,4 +1,4 @@
--- The word has the place taken, and the entry stands in it.
+-- The station has the new entry in its place. The word has the place taken, and the entry stands in it.
 -- Assumes nothing.
 use borrow.Author.Needs.{needs}
 use Rattle.station.proofs.places.with_new.Statement.{statement}
