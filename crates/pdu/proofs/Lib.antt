@@ -2,3 +2,9 @@
 pub mod WordLaws
 pub mod ReadingLaws
 pub mod WritingLaws
+pub mod RuleLaws
+pub mod TakenExactly
+pub mod ByTable
+pub mod RoundTrip
+pub mod WrittenForm
+pub mod Carried

@@ -10,7 +10,6 @@ use Rattle.wire.specs.Table.{read}
 use Rattle.wire.proofs.ByteLaws.{num-split}
 use Rattle.pdu.specs.Tables.{wordTable}
 use Rattle.pdu.specs.Words.{wordFrom}
-use Rattle.pdu.specs.declared.Word.{Word}
 use Rattle.pdu.specs.declared.Word.the-variants.{Here}
 
 -- a field of the whole number is the field of its low sixteen bits

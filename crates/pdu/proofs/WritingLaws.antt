@@ -6,10 +6,10 @@ use mathlib.Core.Bool.{Bool, true, false, not, _&&_, cond}
 use mathlib.Core.List.{List, _++_}
 use lib.ListN.{length, length-append, length-replicate}
 use lib.Dec.{eqb, ltb}
-use borrow.Author.Tests.{eqb-true, ltb-false, not-false}
 use native.Mathlib.Omega.{arith}
+use borrow.Author.Tests.{eqb-true, ltb-false, not-false}
 use Rattle.wire.specs.First.{first, numbered}
-use Rattle.wire.proofs.FirstLaws.{none-behind, unbroken, brokenAt}
+use Rattle.wire.proofs.FirstLaws.{none-behind, unbroken}
 use Rattle.pdu.specs.Records.{signalSize}
 use Rattle.pdu.specs.Words.{wordsIn, wholeWords}
 use Rattle.pdu.specs.Reading.{networkRules, bodyRules}

@@ -5,3 +5,5 @@ pub mod Records
 pub mod Words
 pub mod Reading
 pub mod Writing
+pub mod Plain
+pub mod Fits

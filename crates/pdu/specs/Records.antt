@@ -1,5 +1,5 @@
 -- The records that the calls carry, and the values of each in the order of its table. A length is among the values and not in the record.
-use Prim.Native.Nat.{ℕ, _+_, _-_, _*_, _/_}
+use Prim.Native.Nat.{ℕ, _+_, _*_, _/_}
 use mathlib.Core.List.{List, [], _∷_, _++_}
 use lib.ListN.{getD}
 use Rattle.wire.specs.Table.{read}

@@ -6,7 +6,7 @@ use lib.ListN.{length, drop, replicate}
 use lib.Dec.{eqb, ltb}
 use Rattle.wire.specs.Bytes.{num, allZero}
 use Rattle.wire.specs.Table.{fill, clear, allBlank}
-use Rattle.wire.specs.First.{Refusal, _given-when_, first}
+use Rattle.wire.specs.First.{Refusal, _given-when_}
 use Rattle.pdu.specs.Numbers
 use Rattle.pdu.specs.Tables.{transmitterTable, signalTable}
 use Rattle.pdu.specs.Records.{signalSize, transmitterValues, signalValues, transmitterOf, signalOf}

@@ -185,10 +185,12 @@ pub(crate) fn refusal(d: &[u8]) -> u8
         return 11;
     }
     let bits = wire::u16_at(d, 28);
-    if wrong_bits(bits) {
+    let bad_bits = wrong_bits(bits);
+    let bad_size = wire::no(d.len() == filled_size((LEAST + bits / 8) as usize));
+    if bad_bits {
         return 12;
     }
-    if d.len() != filled_size((LEAST + bits / 8) as usize) {
+    if bad_size {
         return 8;
     }
     inner_refusal(d, (bits / 8 - NETWORK_BYTES) as usize)

@@ -8,11 +8,11 @@ use mathlib.Core.List.{List, [], _∷_, _++_, append-assoc}
 use lib.ListN.{length, getD, take, drop, set, length-append, length-drop}
 use lib.Seq.{getD-append-add, getD-at, getD-drop, take-suc, length-take-le, sets-eq}
 use lib.Arith.{digits-div, digits-mod, mod-mul}
-use native.Mathlib.Nat.{add-zero, add-suc, suc-add, add-assoc, mod-one, pow-suc, zero-add}
 use lib.Dec.{eqb}
-use borrow.Author.Tests.{eq-eqb, ne-eqb}
+use native.Mathlib.Nat.{add-zero, add-suc, suc-add, add-assoc, mod-one, pow-suc, zero-add}
 use native.Mathlib.Numerals.{add-one}
 use native.Mathlib.Omega.{arith}
+use borrow.Author.Tests.{eq-eqb, ne-eqb}
 use Rattle.wire.specs.Bytes.{num, big, splice, allZero, Bytes}
 
 pub length-big : (w v : ℕ) → length (big w v) ≡ w

@@ -2,3 +2,4 @@
 pub mod ByteLaws
 pub mod TableLaws
 pub mod FirstLaws
+pub mod FitLaws

@@ -3,18 +3,18 @@
 -- written back, are the bytes with padding zero (`fill-read`), and those are the bytes themselves exactly where the padding is zero
 -- (`clear-blank`, `blank-clear`). Each goes by induction on the table, over the same law of one slot and of the parts of a number.
 -- Assumes nothing.
-use Prim.Native.Nat.{ℕ, zero, suc, _+_, _*_, _/_, _%_, _^_, _≤_, _<_}
+use Prim.Native.Nat.{ℕ, zero, suc, _+_, _*_, _%_, _^_, _≤_, _<_}
 use mathlib.Core.Path.{_≡_, refl, sym, ap, ap₂, _∙_, subst}
 use mathlib.Core.Bool.{Bool, true, false, _&&_, false≢true}
-use mathlib.Core.List.{List, [], _∷_, _++_, append-assoc, append-nil}
-use lib.ListN.{length, getD, take, drop, length-append, take-append-drop}
-use lib.Seq.{take-at, drop-at, take-add, drop-drop, length-take-le}
+use mathlib.Core.List.{List, [], _∷_, _++_, append-assoc}
+use lib.ListN.{length, take, drop, length-append, take-append-drop}
+use lib.Seq.{take-at, drop-at, take-add, drop-drop}
 use lib.Arith.{digits-lt, digits-div, digits-mod}
 use lib.Pow.{pow-pos, pow-add, mod-pow-add}
 use lib.Dec.{eqb, ltb}
-use borrow.Author.Tests.{eqb-true, eq-eqb, ltb-true}
 use native.Mathlib.Nat.{add-zero, mod-one, mod-eq-of-lt, zero-mul, suc-mul, pow-suc}
 use native.Mathlib.Omega.{arith}
+use borrow.Author.Tests.{eqb-true, eq-eqb, ltb-true}
 use Rattle.wire.specs.Bytes.{num, big, Bytes}
 use Rattle.wire.specs.Table.{Part, keep, only, skip, Slot, kept, padding, one, parts, bits, above, split, join, clean, fixed, bare, keeps, wide, count, values, number, tidy, right, blank, width, read, fill, clear, allFixed, allBlank, soundParts, sound, FitParts, Fit}
 use Rattle.wire.proofs.ByteLaws.{length-big, num-append, num-big, big-num, num-lt}
@@ -84,7 +84,7 @@ join-split (only b u ∷ ps) v e =
     ap₂ (λ (m n : ℕ). m * 2 ^ bits ps + n) (sym (eqb-true _ _ (h .0))) (join-split ps v (h .1))
 join-split (skip b ∷ ps) v e = join-split ps v e
 
-length-split : (ps : List Part) (v : ℕ) → length (split ps v) ≡ keeps ps
+pub length-split : (ps : List Part) (v : ℕ) → length (split ps v) ≡ keeps ps
 length-split [] v = refl
 length-split (keep b ∷ ps) v = ap suc (length-split ps v)
 length-split (only b u ∷ ps) v = length-split ps v

@@ -1,45 +1,35 @@
-use Rattle.pdu.proofs.ReadingLaws.{taken-long, taken-transmitter, taken-signal, transmitter-size, signal-bits, signal-length}
+-- `is_written` meets its contract: a taken datagram is in written form exactly if the padding that its own table names is zero.
+-- Assumes nothing.
+use mathlib.Core.Path.{sym, _∙_}
+use denote.Ref.{now}
+use native.Mathlib.Omega.{arith}
+use borrow.Author.Tests.{eq-eqb, ne-eqb}
+use borrow.Author.Needs.{needs}
+use Rattle.wire.specs.Bytes.{num}
 use Rattle.pdu.specs.Writing.{inWrittenForm}
 use Rattle.pdu.specs.Reading.{refusal}
-use Rattle.wire.specs.Bytes.{num}
-use borrow.Author.Tests.{eq-eqb, ne-eqb}
-use native.Mathlib.Omega.{arith}
-use denote.Ref.{now}
-use mathlib.Core.Path.{_≡_, refl, sym, ap, _∙_}
-use borrow.Author.Needs.{needs}
+use Rattle.pdu.proofs.ReadingLaws.{taken-long, taken-transmitter, taken-signal, transmitter-size, signal-bits, signal-length}
 use Rattle.pdu.proofs.is_written.Statement.{statement}
 use Rattle.pdu.proofs.is_written.Tie as tie
-use Rattle.pdu.proofs.is_written.Reads as reads
-use Rattle.pdu.proofs.is_written.Lts as lts
-use Rattle.pdu.proofs.reading_refusal.Reads as reading-refusal-reads
-use Rattle.pdu.proofs.signal_reader.is_blank.Reads as signal-reader-is-blank-reads
-use Rattle.pdu.proofs.transmitter_reader.is_blank.Reads as transmitter-reader-is-blank-reads
-use Rattle.wire.proofs.u8_at.Reads as u8-at-reads
 
--- src/lib.rt:208:8
 reading-refusal-requires : tie.Need-reading-refusal-requires
 reading-refusal-requires c κs = search needs
 
--- src/lib.rt:209:9
 returns : tie.Need-returns
 unfolding inWrittenForm
 returns c =
     rw
     (ne-eqb (refusal (now (c .before .before .before .args .datagram))) 0 (λ e. c .if1 .taken (c .before .reading-refusal .ensures ∙ e)))
 
--- src/lib.rt:211:8
 u8-at-requires : tie.Need-u8-at-requires
 u8-at-requires c κs = omega (arith, taken-long (now (c .before .before .before .args .datagram)) (sym (c .before .reading-refusal .ensures) ∙ c .if1 .left))
 
--- src/lib.rt:212:9
 is-blank-requires : tie.Need-is-blank-requires
 is-blank-requires c κs = omega (arith, transmitter-size (now (c .before .before .before .before .before .args .datagram)) (taken-transmitter (now (c .before .before .before .before .before .args .datagram)) (sym (c .before .before .before .reading-refusal .ensures) ∙ c .before .before .if1 .left) (eq-eqb (num 1 2 (now (c .before .before .before .before .before .args .datagram))) 25 (sym (c .before .u8-at .ensures) ∙ c .if2 .taken))))
 
--- src/lib.rt:214:9
 is-blank-requires-2 : tie.Need-is-blank-requires-2
 is-blank-requires-2 c κs = omega (arith, signal-bits (now (c .before .before .before .before .before .args .datagram)) (taken-signal (now (c .before .before .before .before .before .args .datagram)) (sym (c .before .before .before .reading-refusal .ensures) ∙ c .before .before .if1 .left) (ne-eqb (num 1 2 (now (c .before .before .before .before .before .args .datagram))) 25 (λ e. c .if2 .left (c .before .u8-at .ensures ∙ e)))), signal-length (now (c .before .before .before .before .before .args .datagram)) (taken-signal (now (c .before .before .before .before .before .args .datagram)) (sym (c .before .before .before .reading-refusal .ensures) ∙ c .before .before .if1 .left) (ne-eqb (num 1 2 (now (c .before .before .before .before .before .args .datagram))) 25 (λ e. c .if2 .left (c .before .u8-at .ensures ∙ e)))))
 
--- src/lib.rt:205:1
 returns-2 : tie.Need-returns-2
 unfolding inWrittenForm
 returns-2 c =
@@ -48,7 +38,6 @@ returns-2 c =
       (eq-eqb (num 1 2 (now (c .before .before .before .before .before .before .args .datagram))) 25 (sym (c .before .before .u8-at .ensures) ∙ c .before .if2 .taken)),
     ) (c .is-blank .ensures)
 
--- src/lib.rt:205:1
 returns-3 : tie.Need-returns-3
 unfolding inWrittenForm
 returns-3 c =

@@ -1,36 +1,28 @@
-use Rattle.pdu.specs.Reading.{wrongVersion, readingRules, refusal}
-use Rattle.wire.specs.Bytes.{num}
-use borrow.Author.Tests.{lt-ltb, le-ltb, eq-eqb, ne-eqb}
+-- `reading_refusal` meets its contract: at each return the tests on the way say that its rule is the first broken one; the PDU type picks
+-- the rest of the list.
+-- Assumes nothing.
+use mathlib.Core.Path.{sym, ap, _∙_}
 use lib.ListN.{length}
 use denote.Ref.{now}
-use mathlib.Core.Path.{_≡_, sym, ap, _∙_}
+use borrow.Author.Tests.{lt-ltb, le-ltb, eq-eqb, ne-eqb}
 use borrow.Author.Needs.{needs}
+use Rattle.wire.specs.Bytes.{num}
+use Rattle.pdu.specs.Reading.{wrongVersion, readingRules, refusal}
 use Rattle.pdu.proofs.reading_refusal.Statement.{statement}
 use Rattle.pdu.proofs.reading_refusal.Tie as tie
-use Rattle.pdu.proofs.reading_refusal.Reads as reads
-use Rattle.pdu.proofs.reading_refusal.Lts as lts
-use Rattle.pdu.proofs.common.wrong_type.Reads as wrong-type-reads
-use Rattle.pdu.proofs.common.wrong_version.Reads as wrong-version-reads
-use Rattle.pdu.proofs.signal_reader.refusal.Reads as signal-reader-refusal-reads
-use Rattle.pdu.proofs.transmitter_reader.refusal.Reads as transmitter-reader-refusal-reads
-use Rattle.wire.proofs.u8_at.Reads as u8-at-reads
 
--- src/lib.rt:115:9
 returns : tie.Need-returns
 unfolding refusal readingRules
 returns c =
     rw
     (lt-ltb (length (now (c .before .before .args .d))) 12 (c .if1 .taken))
 
--- src/lib.rt:117:30
 u8-at-requires : tie.Need-u8-at-requires
 u8-at-requires c κs = search needs
 
--- src/lib.rt:117:8
 wrong-version-requires : tie.Need-wrong-version-requires
 wrong-version-requires c κs = search needs
 
--- src/lib.rt:118:9
 returns-2 : tie.Need-returns-2
 unfolding refusal readingRules
 returns-2 c =
@@ -39,11 +31,9 @@ returns-2 c =
       sym (c .before .wrong-version .ensures ∙ ap wrongVersion (c .before .before .u8-at .ensures)) ∙ c .if2 .taken,
     )
 
--- src/lib.rt:120:8
 wrong-type-requires : tie.Need-wrong-type-requires
 wrong-type-requires c κs = search needs
 
--- src/lib.rt:121:9
 returns-3 : tie.Need-returns-3
 unfolding refusal readingRules
 returns-3 c =
@@ -53,19 +43,15 @@ returns-3 c =
       sym (c .before .wrong-type .ensures) ∙ c .if3 .taken,
     )
 
--- src/lib.rt:123:8
 u8-at-requires-2 : tie.Need-u8-at-requires-2
 u8-at-requires-2 c κs = search needs
 
--- src/lib.rt:124:9
 refusal-requires : tie.Need-refusal-requires
 refusal-requires c κs = search needs
 
--- src/lib.rt:126:9
 refusal-requires-2 : tie.Need-refusal-requires-2
 refusal-requires-2 c κs = search needs
 
--- src/lib.rt:111:1
 returns-4 : tie.Need-returns-4
 unfolding refusal readingRules
 returns-4 c =
@@ -76,7 +62,6 @@ returns-4 c =
       eq-eqb (num 1 2 (now (c .before .before .before .before .before .before .before .before .before .before .args .d))) 25 (sym (c .before .before .u8-at2 .ensures) ∙ c .before .if4 .taken),
     ) (c .refusal .ensures)
 
--- src/lib.rt:111:1
 returns-5 : tie.Need-returns-5
 unfolding refusal readingRules
 returns-5 c =

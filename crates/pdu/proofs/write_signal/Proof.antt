@@ -1,47 +1,39 @@
-use Rattle.pdu.proofs.WritingLaws.{signal-fits, length-signal}
-use Rattle.pdu.specs.Writing.{signalWriting, signalBytes}
-use Rattle.pdu.specs.declared.Written.the-variants.{Refused, Size}
-use Rattle.wire.proofs.ByteLaws.{splice-start}
-use Rattle.wire.specs.First.{first}
-use borrow.Author.Tests.{eq-eqb, ne-eqb}
-use native.Mathlib.Omega.{arith}
+-- `write_signal` meets its contract: refused, it has written nothing; else the PDU stands at the output's start, with what was behind it
+-- (`splice-start`). The rules passed give the bounds that writing asks (`signal-fits`).
+-- Assumes nothing.
+use mathlib.Core.Path.{sym, ap, _∙_}
 use lib.ListN.{length}
 use denote.Ref.{now}
-use mathlib.Core.Path.{_≡_, refl, sym, ap, _∙_}
+use native.Mathlib.Omega.{arith}
+use borrow.Author.Tests.{eq-eqb, ne-eqb}
 use borrow.Author.Needs.{needs}
+use Rattle.wire.proofs.ByteLaws.{splice-start}
+use Rattle.wire.specs.First.{first}
+use Rattle.pdu.specs.Writing.{signalWriting, signalBytes}
+use Rattle.pdu.specs.declared.Written.the-variants.{Refused, Size}
+use Rattle.pdu.proofs.WritingLaws.{signal-fits, length-signal}
 use Rattle.pdu.proofs.write_signal.Statement.{statement}
 use Rattle.pdu.proofs.write_signal.Tie as tie
-use Rattle.pdu.proofs.write_signal.Reads as reads
-use Rattle.pdu.proofs.write_signal.Lts as lts
-use Rattle.pdu.proofs.signal_reader.signal_size.Reads as signal-size-reads
-use Rattle.pdu.proofs.signal_writer.put.Reads as put-reads
-use Rattle.pdu.proofs.signal_writer.refusal.Reads as refusal-reads
 
--- src/lib.rt:196:9
 refusal-requires : tie.Need-refusal-requires
 refusal-requires c κs = search needs
 
--- src/lib.rt:198:9
 returns : tie.Need-returns
 returns c =
     let no = ne-eqb (first (signalWriting (c .before .before .before .before .args .s) (length (now (c .before .before .before .before .args .body))) (length (now (c .before .before .before .before .args .out))))) 0 (λ e. c .if1 .taken (c .before .refusal .ensures ∙ e)) in
     (rw no (ap Refused (c .before .refusal .ensures)), rw no)
 
--- src/lib.rt:200:5
 put-requires : tie.Need-put-requires
 put-requires c κs =
     let fits = (signal-fits (c .before .before .before .before .before .args .s) (length (now (c .before .before .before .before .before .args .body))) (length (now (c .before .before .before .before .before .args .out))) (sym (c .before .before .refusal .ensures) ∙ c .before .if1 .left)) in
     (fits .space, fits .encoding, fits .slot, fits .body)
 
--- src/lib.rt:201:19
 signal-size-requires : tie.Need-signal-size-requires
 signal-size-requires c κs = omega (arith, (signal-fits (c .before .before .before .before .before .before .before .before .args .s) (length (now (c .before .before .before .before .before .before .before .before .args .body))) (length (now (c .before .before .before .before .before .before .before .before .args .out))) (sym (c .before .before .before .before .before .refusal .ensures) ∙ c .before .before .before .before .if1 .left)) .body)
 
--- src/lib.rt:192:1
 same-length : tie.Need-same-length
 same-length c = search needs
 
--- src/lib.rt:192:1
 returns-2 : tie.Need-returns-2
 returns-2 c =
     let yes = eq-eqb (first (signalWriting (c .before .before .before .before .before .before .before .before .before .args .s) (length (now (c .before .before .before .before .before .before .before .before .before .args .body))) (length (now (c .before .before .before .before .before .before .before .before .before .args .out))))) 0 (sym (c .before .before .before .before .before .before .refusal .ensures) ∙ c .before .before .before .before .before .if1 .left) in (

@@ -1,7 +1,9 @@
+-- `wire::copy` meets its contract: after i turns the output is the first i bytes spliced in (`splice-more` is one turn), and its length stands.
+-- Assumes nothing.
 use Prim.Native.Nat.{ℕ, _+_, _-_, _≤_}
-use mathlib.Core.Path.{_≡_, refl, ap, ap₂, sym, _∙_}
+use mathlib.Core.Path.{_≡_, refl, ap, _∙_}
 use mathlib.Core.List.{List}
-use lib.ListN.{length, getD, take, set, replicate, length-set, length-replicate, getD-replicate}
+use lib.ListN.{length, getD, take, set, length-set}
 use lib.Seq.{take-all}
 use denote.Ref.{now}
 use native.Mathlib.Omega.{arith}
@@ -9,8 +11,6 @@ use Rattle.wire.specs.Bytes.{splice}
 use Rattle.wire.proofs.ByteLaws.{splice-more}
 use Rattle.wire.proofs.copy.Statement.{statement}
 use Rattle.wire.proofs.copy.Tie as tie
-use Rattle.wire.proofs.copy.Reads as reads
-use Rattle.wire.proofs.copy.Lts as lts
 
 abbrev Inv-loop : tie.InvT-loop
 Inv-loop out₀ at src i₀ out i = (i ≤ length src) × (out ≡ splice at (take i src) out₀) × (length out ≡ length out₀)
@@ -18,31 +18,24 @@ Inv-loop out₀ at src i₀ out i = (i ≤ length src) × (out ≡ splice at (ta
 abbrev μ-loop : tie.MeasureT-loop
 μ-loop out₀ at src i₀ out i = length src - i
 
--- src/lib.rt:110:5
 loop-holds : tie.Need-loop-holds Inv-loop μ-loop
 loop-holds c = (omega arith, refl, refl)
 
--- src/lib.rt:111:23
 shared-slice-read-out : tie.Need-shared-slice-read-out Inv-loop μ-loop
 shared-slice-read-out c = omega arith
 
--- src/lib.rt:111:13
 add-out : tie.Need-add-out Inv-loop μ-loop
 add-out c = omega arith
 
--- src/lib.rt:111:9
 slice-write-out : tie.Need-slice-write-out Inv-loop μ-loop
 slice-write-out c = omega arith
 
--- src/lib.rt:112:9
 add-i : tie.Need-add-i Inv-loop μ-loop
 add-i c = omega arith
 
--- src/lib.rt:110:5
 loop-less : tie.Need-loop-less Inv-loop μ-loop
 loop-less c = omega arith
 
--- src/lib.rt:110:5
 loop-again : tie.Need-loop-again Inv-loop μ-loop
 loop-again c =
     let a = c .before .before .before .args in
@@ -53,11 +46,9 @@ loop-again c =
       length-set (l .out) _ _ ∙ l .inv .2,
     )
 
--- src/lib.rt:105:1
 same-length : tie.Need-same-length Inv-loop μ-loop
 same-length c = c .before .loop .inv .2
 
--- src/lib.rt:105:1
 returns : tie.Need-returns Inv-loop μ-loop
 returns c =
     let a = c .before .before .args in

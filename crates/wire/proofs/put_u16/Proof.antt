@@ -1,38 +1,30 @@
-use borrow.Author.Needs.{needs}
+-- `wire::put_u16` meets its contract: the stores are the splice of the number's bytes, one place after the other.
+-- Assumes nothing.
 use lib.ListN.{length-set}
-use native.Mathlib.Nat.{mod-eq-of-lt}
 use native.Mathlib.Numerals.{towards-suc}
 use native.Mathlib.Omega.{arith}
+use borrow.Author.Needs.{needs}
 use Rattle.wire.proofs.put_u16.Statement.{statement}
 use Rattle.wire.proofs.put_u16.Tie as tie
-use Rattle.wire.proofs.put_u16.Reads as reads
-use Rattle.wire.proofs.put_u16.Lts as lts
 
--- src/lib.rt:74:15
 cast-out : tie.Need-cast-out
 cast-out c = search needs
 
--- src/lib.rt:74:5
 slice-write-out : tie.Need-slice-write-out
 slice-write-out c = search needs
 
--- src/lib.rt:75:19
 cast-out-2 : tie.Need-cast-out-2
 cast-out-2 c = search needs
 
--- src/lib.rt:75:9
 add-out : tie.Need-add-out
 add-out c = search needs
 
--- src/lib.rt:75:5
 slice-write-out-2 : tie.Need-slice-write-out-2
 slice-write-out-2 c = simp length-set (omega arith)
 
--- src/lib.rt:70:1
 same-length : tie.Need-same-length
 same-length c = search needs
 
--- src/lib.rt:70:1
 returns : tie.Need-returns
 returns c = simp towards-suc
 

@@ -1,22 +1,16 @@
-use borrow.Author.Needs.{needs}
-use lib.ListN.{length-set}
+-- `wire::put_u8` meets its contract: a byte is its own remainder by 256.
+-- Assumes nothing.
 use native.Mathlib.Nat.{mod-eq-of-lt}
-use native.Mathlib.Numerals.{towards-suc}
-use native.Mathlib.Omega.{arith}
+use borrow.Author.Needs.{needs}
 use Rattle.wire.proofs.put_u8.Statement.{statement}
 use Rattle.wire.proofs.put_u8.Tie as tie
-use Rattle.wire.proofs.put_u8.Reads as reads
-use Rattle.wire.proofs.put_u8.Lts as lts
 
--- src/lib.rt:66:5
 slice-write-out : tie.Need-slice-write-out
 slice-write-out c = search needs
 
--- src/lib.rt:62:1
 same-length : tie.Need-same-length
 same-length c = search needs
 
--- src/lib.rt:62:1
 returns : tie.Need-returns
 returns c = rw (mod-eq-of-lt (c .fits .v .fits))
 

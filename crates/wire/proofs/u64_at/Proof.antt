@@ -1,3 +1,5 @@
+-- `wire::u64_at` meets its contract: a number of eight bytes is its first four and its last four (`num-split`).
+-- Assumes nothing.
 use Prim.Native.Nat.{ℕ, _+_, _*_}
 use mathlib.Core.Path.{sym, ap₂, _∙_}
 use denote.Ref.{now}
@@ -5,40 +7,28 @@ use borrow.Author.Needs.{needs}
 use Rattle.wire.proofs.ByteLaws.{num-split}
 use Rattle.wire.proofs.u64_at.Statement.{statement}
 use Rattle.wire.proofs.u64_at.Tie as tie
-use Rattle.wire.proofs.u64_at.Reads as reads
-use Rattle.wire.proofs.u64_at.Lts as lts
-use Rattle.wire.proofs.u32_at.Reads as u32-at-reads
-use Rattle.wire.proofs.wide64.Reads as wide64-reads
 
--- src/lib.rt:58:12
 u32-at-requires : tie.Need-u32-at-requires
 u32-at-requires c κs = search needs
 
--- src/lib.rt:58:5
 wide64-requires : tie.Need-wide64-requires
 wide64-requires c κs = search needs
 
--- src/lib.rt:58:5
 mul-result : tie.Need-mul-result
 mul-result c = search needs
 
--- src/lib.rt:58:59
 add-u32-at : tie.Need-add-u32-at
 add-u32-at c = search needs
 
--- src/lib.rt:58:49
 u32-at-requires-2 : tie.Need-u32-at-requires-2
 u32-at-requires-2 c κs = search needs
 
--- src/lib.rt:58:42
 wide64-requires-2 : tie.Need-wide64-requires-2
 wide64-requires-2 c κs = search needs
 
--- src/lib.rt:58:5
 add-result : tie.Need-add-result
 add-result c = search needs
 
--- src/lib.rt:54:1
 returns : tie.Need-returns
 returns c =
     let a = c .before .before .before .before .before .args in

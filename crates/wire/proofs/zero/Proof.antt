@@ -1,7 +1,9 @@
+-- `wire::zero` meets its contract as `wire::copy` does, the bytes spliced in being zeros.
+-- Assumes nothing.
 use Prim.Native.Nat.{ℕ, _+_, _-_, _≤_}
 use mathlib.Core.Path.{_≡_, refl, ap, ap₂, sym, _∙_}
 use mathlib.Core.List.{List}
-use lib.ListN.{length, getD, take, set, replicate, length-set, length-replicate, getD-replicate}
+use lib.ListN.{length, take, set, replicate, length-set, length-replicate, getD-replicate}
 use lib.Seq.{take-all}
 use denote.Ref.{now}
 use native.Mathlib.Omega.{arith}
@@ -9,8 +11,6 @@ use Rattle.wire.specs.Bytes.{splice}
 use Rattle.wire.proofs.ByteLaws.{splice-more}
 use Rattle.wire.proofs.zero.Statement.{statement}
 use Rattle.wire.proofs.zero.Tie as tie
-use Rattle.wire.proofs.zero.Reads as reads
-use Rattle.wire.proofs.zero.Lts as lts
 
 abbrev Inv-loop : tie.InvT-loop
 Inv-loop out₀ at n i₀ out i = (i ≤ n) × (out ≡ splice at (take i (replicate n 0)) out₀) × (length out ≡ length out₀)
@@ -18,27 +18,21 @@ Inv-loop out₀ at n i₀ out i = (i ≤ n) × (out ≡ splice at (take i (repli
 abbrev μ-loop : tie.MeasureT-loop
 μ-loop out₀ at n i₀ out i = n - i
 
--- src/lib.rt:122:5
 loop-holds : tie.Need-loop-holds Inv-loop μ-loop
 loop-holds c = (omega arith, refl, refl)
 
--- src/lib.rt:123:13
 add-out : tie.Need-add-out Inv-loop μ-loop
 add-out c = omega arith
 
--- src/lib.rt:123:9
 slice-write-out : tie.Need-slice-write-out Inv-loop μ-loop
 slice-write-out c = omega arith
 
--- src/lib.rt:124:9
 add-i : tie.Need-add-i Inv-loop μ-loop
 add-i c = omega arith
 
--- src/lib.rt:122:5
 loop-less : tie.Need-loop-less Inv-loop μ-loop
 loop-less c = omega arith
 
--- src/lib.rt:122:5
 loop-again : tie.Need-loop-again Inv-loop μ-loop
 loop-again c =
     let a = c .before .before .args in
@@ -50,11 +44,9 @@ loop-again c =
       length-set (l .out) _ _ ∙ l .inv .2,
     )
 
--- src/lib.rt:117:1
 same-length : tie.Need-same-length Inv-loop μ-loop
 same-length c = c .before .loop .inv .2
 
--- src/lib.rt:117:1
 returns : tie.Need-returns Inv-loop μ-loop
 returns c =
     let a = c .before .before .args in

@@ -1,42 +1,31 @@
-use Rattle.pdu.specs.Records.{headerOf}
+-- `read_header` meets its contract: each field is the number that the table places there.
+-- Assumes nothing.
 use borrow.Author.Needs.{needs}
+use Rattle.pdu.specs.Records.{headerOf}
 use Rattle.pdu.proofs.common.read_header.Statement.{statement}
 use Rattle.pdu.proofs.common.read_header.Tie as tie
-use Rattle.pdu.proofs.common.read_header.Reads as reads
-use Rattle.pdu.proofs.common.read_header.Lts as lts
-use Rattle.wire.proofs.u16_at.Reads as u16-at-reads
-use Rattle.wire.proofs.u32_at.Reads as u32-at-reads
-use Rattle.wire.proofs.u8_at.Reads as u8-at-reads
 
--- src/common.rt:47:18
 u8-at-requires : tie.Need-u8-at-requires
 u8-at-requires c κs = search needs
 
--- src/common.rt:48:19
 u8-at-requires-2 : tie.Need-u8-at-requires-2
 u8-at-requires-2 c κs = search needs
 
--- src/common.rt:49:20
 u32-at-requires : tie.Need-u32-at-requires
 u32-at-requires c κs = search needs
 
--- src/common.rt:50:15
 u16-at-requires : tie.Need-u16-at-requires
 u16-at-requires c κs = search needs
 
--- src/common.rt:51:22
 u16-at-requires-2 : tie.Need-u16-at-requires-2
 u16-at-requires-2 c κs = search needs
 
--- src/common.rt:52:17
 u16-at-requires-3 : tie.Need-u16-at-requires-3
 u16-at-requires-3 c κs = search needs
 
--- src/common.rt:53:16
 u16-at-requires-4 : tie.Need-u16-at-requires-4
 u16-at-requires-4 c κs = search needs
 
--- src/common.rt:42:1
 returns : tie.Need-returns
 unfolding headerOf
 returns c = λ i.

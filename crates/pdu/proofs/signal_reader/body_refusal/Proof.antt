@@ -1,31 +1,26 @@
-use Rattle.pdu.proofs.ReadingLaws.{differs, agrees}
-use Rattle.pdu.specs.Words.{wordsIn}
-use borrow.Author.Tests.{lt-ltb, le-ltb, eq-eqb, ne-eqb}
-use denote.Ref.{now}
-use lib.ListN.{length}
+-- `body_refusal` meets its contract: at each return the tests on the way say which of 14 and 15 is the first broken one, or that neither is.
+-- Assumes nothing.
 use Prim.Native.Nat.{ℕ, _+_, _*_}
-use Rattle.pdu.specs.Reading.{bodyRules}
-use mathlib.Core.Path.{_≡_, sym, ap, _∙_}
+use mathlib.Core.Path.{sym, ap, _∙_}
+use lib.ListN.{length}
+use denote.Ref.{now}
+use borrow.Author.Tests.{lt-ltb, le-ltb, eq-eqb, ne-eqb}
 use borrow.Author.Needs.{needs}
+use Rattle.pdu.specs.Words.{wordsIn}
+use Rattle.pdu.specs.Reading.{bodyRules}
+use Rattle.pdu.proofs.ReadingLaws.{differs, agrees}
 use Rattle.pdu.proofs.signal_reader.body_refusal.Statement.{statement}
 use Rattle.pdu.proofs.signal_reader.body_refusal.Tie as tie
-use Rattle.pdu.proofs.signal_reader.body_refusal.Reads as reads
-use Rattle.pdu.proofs.signal_reader.body_refusal.Lts as lts
-use Rattle.pdu.proofs.words.count.Reads as count-reads
 
--- src/signal_reader.rt:106:13
 count-requires : tie.Need-count-requires
 count-requires c κs = search needs
 
--- src/signal_reader.rt:107:47
 mul-if2 : tie.Need-mul-if2
 mul-if2 c = search needs
 
--- src/signal_reader.rt:107:26
 add-if2 : tie.Need-add-if2
 add-if2 c = search needs
 
--- src/signal_reader.rt:108:13
 returns : tie.Need-returns
 unfolding bodyRules
 returns c =
@@ -34,7 +29,6 @@ returns c =
       differs (length (now (c .before .before .before .before .args .body))) (6 + 10 * wordsIn (length (now (c .before .before .before .before .args .body)))) (λ e. c .if2 .taken (e ∙ sym (ap (λ (n : ℕ). 6 + 10 * n) (c .before .count .ensures)))),
     )
 
--- src/signal_reader.rt:111:13
 returns-2 : tie.Need-returns-2
 unfolding bodyRules
 returns-2 c =
@@ -44,7 +38,6 @@ returns-2 c =
       lt-ltb 12 (wordsIn (length (now (c .before .before .before .before .before .args .body)))) (rw (c .before .before .count .ensures) at (c .if3 .taken)),
     )
 
--- src/signal_reader.rt:113:9
 returns-3 : tie.Need-returns-3
 unfolding bodyRules
 returns-3 c =
@@ -54,7 +47,6 @@ returns-3 c =
       le-ltb 12 (wordsIn (length (now (c .before .before .before .before .before .args .body)))) (rw (c .before .before .count .ensures) at (c .if3 .left)),
     )
 
--- src/signal_reader.rt:116:9
 returns-4 : tie.Need-returns-4
 unfolding bodyRules
 returns-4 c =
@@ -63,7 +55,6 @@ returns-4 c =
       lt-ltb 256 (length (now (c .before .before .before .args .body))) (c .if4 .taken),
     )
 
--- src/signal_reader.rt:102:1
 returns-5 : tie.Need-returns-5
 unfolding bodyRules
 returns-5 c =

@@ -1,61 +1,46 @@
-use Rattle.pdu.proofs.ReadingLaws.{part-rest}
-use Rattle.wire.specs.Bytes.{allZero}
-use denote.Ref.{now}
-use lib.ListN.{drop}
+-- The Signal's `is_blank` meets its contract: the part behind the body is the fill (`part-rest`).
+-- Assumes nothing.
+use Prim.Native.Nat.{ℕ, _+_, _-_, _/_}
 use mathlib.Core.Bool.{_&&_}
 use mathlib.Core.Path.{ap, ap₂, _∙_}
-use Prim.Native.Nat.{ℕ, _+_, _-_, _/_}
+use lib.ListN.{drop}
+use denote.Ref.{now}
 use borrow.Author.Needs.{needs}
+use Rattle.wire.specs.Bytes.{allZero}
+use Rattle.pdu.proofs.ReadingLaws.{part-rest}
 use Rattle.pdu.proofs.signal_reader.is_blank.Statement.{statement}
 use Rattle.pdu.proofs.signal_reader.is_blank.Tie as tie
-use Rattle.pdu.proofs.signal_reader.is_blank.Reads as reads
-use Rattle.pdu.proofs.signal_reader.is_blank.Lts as lts
-use Rattle.pdu.proofs.signal_reader.is_head_blank.Reads as is-head-blank-reads
-use Rattle.wire.proofs.both.Reads as both-reads
-use Rattle.wire.proofs.is_zero.Reads as is-zero-reads
-use Rattle.wire.proofs.u16_at.Reads as u16-at-reads
 
--- src/signal_reader.rt:208:29
 u16-at-requires : tie.Need-u16-at-requires
 u16-at-requires c κs = search needs
 
--- src/signal_reader.rt:208:29
 sub-end : tie.Need-sub-end
 sub-end c = search needs
 
--- src/signal_reader.rt:208:28
 cast-end : tie.Need-cast-end
 cast-end c = search needs
 
--- src/signal_reader.rt:208:15
 add-end : tie.Need-add-end
 add-end c = search needs
 
--- src/signal_reader.rt:209:16
 is-head-blank-requires : tie.Need-is-head-blank-requires
 is-head-blank-requires c κs = search needs
 
--- src/signal_reader.rt:209:48
 sub-is-zero : tie.Need-sub-is-zero
 sub-is-zero c = search needs
 
--- src/signal_reader.rt:209:48
 part-is-zero-start : tie.Need-part-is-zero-start
 part-is-zero-start c = search needs
 
--- src/signal_reader.rt:209:48
 part-is-zero-end : tie.Need-part-is-zero-end
 part-is-zero-end c = search needs
 
--- src/signal_reader.rt:209:34
 is-zero-requires : tie.Need-is-zero-requires
 is-zero-requires c κs = search needs
 
--- src/signal_reader.rt:209:5
 both-requires : tie.Need-both-requires
 both-requires c κs = search needs
 
--- src/signal_reader.rt:204:1
 returns : tie.Need-returns
 returns c =
     c .both .ensures

@@ -1,22 +1,18 @@
+-- `network_refusal` meets its contract: at each return the tests on the way say that its rule is the first broken one, or that none is.
+-- Assumes nothing.
+use mathlib.Core.Path.{sym, _∙_}
 use borrow.Author.Tests.{lt-ltb, le-ltb}
-use Rattle.pdu.specs.Reading.{networkRules}
-use mathlib.Core.Path.{_≡_, sym, ap, _∙_}
 use borrow.Author.Needs.{needs}
+use Rattle.pdu.specs.Reading.{networkRules}
 use Rattle.pdu.proofs.signal_reader.network_refusal.Statement.{statement}
 use Rattle.pdu.proofs.signal_reader.network_refusal.Tie as tie
-use Rattle.pdu.proofs.signal_reader.network_refusal.Reads as reads
-use Rattle.pdu.proofs.signal_reader.network_refusal.Lts as lts
-use Rattle.pdu.proofs.signal_reader.wrong_security.Reads as wrong-security-reads
-use Rattle.wire.proofs.both.Reads as both-reads
 
--- src/signal_reader.rt:75:9
 returns : tie.Need-returns
 unfolding networkRules
 returns c =
     rw
     (lt-ltb 511 (c .before .before .args .n .npg) (c .if1 .taken))
 
--- src/signal_reader.rt:78:9
 returns-2 : tie.Need-returns-2
 unfolding networkRules
 returns-2 c =
@@ -25,11 +21,9 @@ returns-2 c =
       lt-ltb 127 (c .before .before .before .before .args .n .net) (c .if2 .taken),
     )
 
--- src/signal_reader.rt:80:8
 wrong-security-requires : tie.Need-wrong-security-requires
 wrong-security-requires c κs = search needs
 
--- src/signal_reader.rt:81:9
 returns-3 : tie.Need-returns-3
 unfolding networkRules
 returns-3 c =
@@ -39,11 +33,9 @@ returns-3 c =
       sym (c .before .wrong-security .ensures) ∙ c .if3 .taken,
     )
 
--- src/signal_reader.rt:83:8
 wrong-security-requires-2 : tie.Need-wrong-security-requires-2
 wrong-security-requires-2 c κs = search needs
 
--- src/signal_reader.rt:84:9
 returns-4 : tie.Need-returns-4
 unfolding networkRules
 returns-4 c =
@@ -54,7 +46,6 @@ returns-4 c =
       sym (c .before .wrong-security2 .ensures) ∙ c .if4 .taken,
     )
 
--- src/signal_reader.rt:87:9
 returns-5 : tie.Need-returns-5
 unfolding networkRules
 returns-5 c =
@@ -66,7 +57,6 @@ returns-5 c =
       lt-ltb 7 (c .before .before .before .before .before .before .before .before .before .before .args .n .«message_type») (c .if5 .taken),
     )
 
--- src/signal_reader.rt:90:9
 returns-6 : tie.Need-returns-6
 unfolding networkRules
 returns-6 c =
@@ -79,7 +69,6 @@ returns-6 c =
       lt-ltb 98303 (c .before .before .before .before .before .before .before .before .before .before .before .before .args .n .slot) (c .if6 .taken),
     )
 
--- src/signal_reader.rt:93:9
 returns-7 : tie.Need-returns-7
 unfolding networkRules
 returns-7 c =
@@ -93,11 +82,9 @@ returns-7 c =
       lt-ltb 112 (c .before .before .before .before .before .before .before .before .before .before .before .before .before .before .args .n .epoch) (c .if7 .taken),
     )
 
--- src/signal_reader.rt:95:8
 both-requires : tie.Need-both-requires
 both-requires c κs = search needs
 
--- src/signal_reader.rt:96:9
 returns-8 : tie.Need-returns-8
 unfolding networkRules
 returns-8 c =
@@ -112,7 +99,6 @@ returns-8 c =
       sym (c .before .both .ensures) ∙ c .if8 .taken,
     )
 
--- src/signal_reader.rt:71:1
 returns-9 : tie.Need-returns-9
 unfolding networkRules
 returns-9 c =

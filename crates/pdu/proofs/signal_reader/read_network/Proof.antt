@@ -1,52 +1,39 @@
-use Rattle.wire.specs.Bytes.{num}
-use native.Mathlib.Nat.{div-one}
-use denote.Ref.{now}
+-- `read_network` meets its contract: each field is the number that the table places there; slot and epoch are parts of one number.
+-- Assumes nothing.
 use Prim.Native.Nat.{ℕ, _/_, _%_}
-use mathlib.Core.Path.{_≡_, sym, ap, _∙_}
-use Rattle.pdu.specs.Records.{signalOf}
+use mathlib.Core.Path.{sym, ap, _∙_}
+use denote.Ref.{now}
+use native.Mathlib.Nat.{div-one}
 use borrow.Author.Needs.{needs}
+use Rattle.wire.specs.Bytes.{num}
+use Rattle.pdu.specs.Records.{signalOf}
 use Rattle.pdu.proofs.signal_reader.read_network.Statement.{statement}
 use Rattle.pdu.proofs.signal_reader.read_network.Tie as tie
-use Rattle.pdu.proofs.signal_reader.read_network.Reads as reads
-use Rattle.pdu.proofs.signal_reader.read_network.Lts as lts
-use Rattle.wire.proofs.u16_at.Reads as u16-at-reads
-use Rattle.wire.proofs.u32_at.Reads as u32-at-reads
-use Rattle.wire.proofs.u64_at.Reads as u64-at-reads
-use Rattle.wire.proofs.u8_at.Reads as u8-at-reads
 
--- src/signal_reader.rt:57:9
 u32-at-requires : tie.Need-u32-at-requires
 u32-at-requires c κs = search needs
 
--- src/signal_reader.rt:59:14
 u16-at-requires : tie.Need-u16-at-requires
 u16-at-requires c κs = search needs
 
--- src/signal_reader.rt:60:14
 u8-at-requires : tie.Need-u8-at-requires
 u8-at-requires c κs = search needs
 
--- src/signal_reader.rt:61:15
 u8-at-requires-2 : tie.Need-u8-at-requires-2
 u8-at-requires-2 c κs = search needs
 
--- src/signal_reader.rt:62:15
 u8-at-requires-3 : tie.Need-u8-at-requires-3
 u8-at-requires-3 c κs = search needs
 
--- src/signal_reader.rt:63:23
 u8-at-requires-4 : tie.Need-u8-at-requires-4
 u8-at-requires-4 c κs = search needs
 
--- src/signal_reader.rt:65:16
 cast-t11 : tie.Need-cast-t11
 cast-t11 c = search needs
 
--- src/signal_reader.rt:66:15
 u64-at-requires : tie.Need-u64-at-requires
 u64-at-requires c κs = search needs
 
--- src/signal_reader.rt:53:1
 returns : tie.Need-returns
 unfolding signalOf
 returns c = λ i.

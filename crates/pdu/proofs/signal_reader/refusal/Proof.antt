@@ -1,41 +1,36 @@
-use Rattle.pdu.proofs.ReadingLaws.{differs, agrees, right-length, right-bits}
-use Rattle.wire.specs.First.{first}
-use Rattle.wire.specs.Bytes.{num}
-use native.Mathlib.Omega.{arith}
+-- The Signal's `refusal` meets its contract: at each return the tests on the way say that its rule is the first broken one. Once 12 and 8 are
+-- passed the slice holds the whole body (`right-bits`).
+-- Assumes nothing.
+use Prim.Native.Nat.{ℕ, _+_, _-_, _/_}
+use mathlib.Core.List.{_++_}
+use mathlib.Core.Bool.{not}
+use mathlib.Core.Path.{sym, ap, _∙_}
+use lib.Dec.{eqb}
 use lib.ListN.{length}
 use denote.Ref.{now}
-use mathlib.Core.List.{_++_}
-use Prim.Native.Nat.{ℕ, _+_, _-_, _/_}
+use native.Mathlib.Omega.{arith}
+use borrow.Author.Tests.{eqb-true, not-false}
+use borrow.Author.Needs.{needs}
+use Rattle.wire.specs.First.{first}
+use Rattle.wire.specs.Bytes.{num}
 use Rattle.pdu.specs.Records.{signalOf, filled}
 use Rattle.pdu.specs.Reading.{wrongBits, networkRules, bodyRules, signalRules}
-use mathlib.Core.Path.{_≡_, sym, ap, _∙_}
-use borrow.Author.Needs.{needs}
+use Rattle.pdu.proofs.ReadingLaws.{differs, agrees, right-length, right-bits}
 use Rattle.pdu.proofs.signal_reader.refusal.Statement.{statement}
 use Rattle.pdu.proofs.signal_reader.refusal.Tie as tie
-use Rattle.pdu.proofs.signal_reader.refusal.Reads as reads
-use Rattle.pdu.proofs.signal_reader.refusal.Lts as lts
-use Rattle.pdu.proofs.common.wrong_length.Reads as wrong-length-reads
-use Rattle.pdu.proofs.signal_reader.filled_size.Reads as filled-size-reads
-use Rattle.pdu.proofs.signal_reader.inner_refusal.Reads as inner-refusal-reads
-use Rattle.pdu.proofs.signal_reader.wrong_bits.Reads as wrong-bits-reads
-use Rattle.wire.proofs.u16_at.Reads as u16-at-reads
 
--- src/signal_reader.rt:139:8
 wrong-length-requires : tie.Need-wrong-length-requires
 wrong-length-requires c κs = search needs
 
--- src/signal_reader.rt:140:9
 returns : tie.Need-returns
 unfolding signalRules
 returns c =
     rw
     (sym (c .before .wrong-length .ensures) ∙ c .if1 .taken)
 
--- src/signal_reader.rt:142:8
 u16-at-requires : tie.Need-u16-at-requires
 u16-at-requires c κs = omega (arith, right-length 32 (now (c .before .before .before .args .d)) (sym (c .before .wrong-length .ensures) ∙ c .if1 .left))
 
--- src/signal_reader.rt:143:9
 returns-2 : tie.Need-returns-2
 unfolding signalRules
 returns-2 c =
@@ -44,11 +39,9 @@ returns-2 c =
       differs (num 2 20 (now (c .before .before .before .before .before .args .d)) / 16384) 1 (λ e. c .if2 .taken (ap (λ (n : ℕ). n / 16384) (c .before .u16-at .ensures) ∙ e)),
     )
 
--- src/signal_reader.rt:145:8
 u16-at-requires-2 : tie.Need-u16-at-requires-2
 u16-at-requires-2 c κs = omega (arith, right-length 32 (now (c .before .before .before .before .before .args .d)) (sym (c .before .before .before .wrong-length .ensures) ∙ c .before .before .if1 .left))
 
--- src/signal_reader.rt:146:9
 returns-3 : tie.Need-returns-3
 unfolding signalRules
 returns-3 c =
@@ -58,74 +51,66 @@ returns-3 c =
       differs (num 2 22 (now (c .before .before .before .before .before .before .before .args .d))) 100 (λ e. c .if3 .taken (c .before .u16-at2 .ensures ∙ e)),
     )
 
--- src/signal_reader.rt:148:9
 u16-at-requires-3 : tie.Need-u16-at-requires-3
 u16-at-requires-3 c κs = omega (arith, right-length 32 (now (c .before .before .before .before .before .before .before .args .d)) (sym (c .before .before .before .before .before .wrong-length .ensures) ∙ c .before .before .before .before .if1 .left))
 
--- src/signal_reader.rt:149:8
 wrong-bits-requires : tie.Need-wrong-bits-requires
 wrong-bits-requires c κs = search needs
 
--- src/signal_reader.rt:150:9
+add-filled-size : tie.Need-add-filled-size
+add-filled-size c = search needs
+
+cast-filled-size : tie.Need-cast-filled-size
+cast-filled-size c = search needs
+
+filled-size-requires : tie.Need-filled-size-requires
+filled-size-requires c κs = search needs
+
+no-requires : tie.Need-no-requires
+no-requires c κs = search needs
+
 returns-4 : tie.Need-returns-4
 unfolding signalRules
 returns-4 c =
     rw (
-      sym (c .before .before .before .before .before .before .before .before .wrong-length .ensures) ∙ c .before .before .before .before .before .before .before .if1 .left,
-      agrees (num 2 20 (now (c .before .before .before .before .before .before .before .before .before .before .args .d)) / 16384) 1 (sym (ap (λ (n : ℕ). n / 16384) (c .before .before .before .before .before .before .u16-at .ensures)) ∙ c .before .before .before .before .before .if2 .left),
-      agrees (num 2 22 (now (c .before .before .before .before .before .before .before .before .before .before .args .d))) 100 (sym (c .before .before .before .before .u16-at2 .ensures) ∙ c .before .before .before .if3 .left),
-      sym (c .before .wrong-bits .ensures ∙ ap wrongBits (c .before .before .u16-at3 .ensures)) ∙ c .if4 .taken,
+      sym (c .before .before .before .before .before .before .before .before .before .before .wrong-length .ensures) ∙ c .before .before .before .before .before .before .before .before .before .if1 .left,
+      agrees (num 2 20 (now (c .before .before .before .before .before .before .before .before .before .before .before .before .args .d)) / 16384) 1 (sym (ap (λ (n : ℕ). n / 16384) (c .before .before .before .before .before .before .before .before .u16-at .ensures)) ∙ c .before .before .before .before .before .before .before .if2 .left),
+      agrees (num 2 22 (now (c .before .before .before .before .before .before .before .before .before .before .before .before .args .d))) 100 (sym (c .before .before .before .before .before .before .u16-at2 .ensures) ∙ c .before .before .before .before .before .if3 .left),
+      sym (c .before .before .before .wrong-bits .ensures ∙ ap wrongBits (c .before .before .before .before .u16-at3 .ensures)) ∙ c .if4 .taken,
     )
 
--- src/signal_reader.rt:152:32
-add-filled-size : tie.Need-add-filled-size
-add-filled-size c = search needs
-
--- src/signal_reader.rt:152:31
-cast-filled-size : tie.Need-cast-filled-size
-cast-filled-size c = search needs
-
--- src/signal_reader.rt:152:19
-filled-size-requires : tie.Need-filled-size-requires
-filled-size-requires c κs = search needs
-
--- src/signal_reader.rt:153:9
 returns-5 : tie.Need-returns-5
 unfolding signalRules
 returns-5 c =
     rw (
-      sym (c .before .before .before .before .before .before .before .before .before .before .wrong-length .ensures) ∙ c .before .before .before .before .before .before .before .before .before .if1 .left,
-      agrees (num 2 20 (now (c .before .before .before .before .before .before .before .before .before .before .before .before .args .d)) / 16384) 1 (sym (ap (λ (n : ℕ). n / 16384) (c .before .before .before .before .before .before .before .before .u16-at .ensures)) ∙ c .before .before .before .before .before .before .before .if2 .left),
-      agrees (num 2 22 (now (c .before .before .before .before .before .before .before .before .before .before .before .before .args .d))) 100 (sym (c .before .before .before .before .before .before .u16-at2 .ensures) ∙ c .before .before .before .before .before .if3 .left),
-      sym (c .before .before .before .wrong-bits .ensures ∙ ap wrongBits (c .before .before .before .before .u16-at3 .ensures)) ∙ c .before .before .if4 .left,
-      differs (length (now (c .before .before .before .before .before .before .before .before .before .before .before .before .args .d))) (filled (32 + (num 2 28 (now (c .before .before .before .before .before .before .before .before .before .before .before .before .args .d))) / 8)) (λ e. c .if5 .taken (e ∙ sym (c .before .filled-size .ensures ∙ ap (λ (n : ℕ). filled (32 + n / 8)) (c .before .before .before .before .u16-at3 .ensures)))),
+      sym (c .before .before .before .before .before .before .before .before .before .before .before .wrong-length .ensures) ∙ c .before .before .before .before .before .before .before .before .before .before .if1 .left,
+      agrees (num 2 20 (now (c .before .before .before .before .before .before .before .before .before .before .before .before .before .args .d)) / 16384) 1 (sym (ap (λ (n : ℕ). n / 16384) (c .before .before .before .before .before .before .before .before .before .u16-at .ensures)) ∙ c .before .before .before .before .before .before .before .before .if2 .left),
+      agrees (num 2 22 (now (c .before .before .before .before .before .before .before .before .before .before .before .before .before .args .d))) 100 (sym (c .before .before .before .before .before .before .before .u16-at2 .ensures) ∙ c .before .before .before .before .before .before .if3 .left),
+      sym (c .before .before .before .before .wrong-bits .ensures ∙ ap wrongBits (c .before .before .before .before .before .u16-at3 .ensures)) ∙ c .before .if4 .left,
+      sym (c .before .before .no .ensures ∙ ap (λ (n : ℕ). not (eqb (length (now (c .before .before .before .before .before .before .before .before .before .before .before .before .before .args .d))) n)) (c .before .before .before .filled-size .ensures ∙ ap (λ (n : ℕ). filled (32 + n / 8)) (c .before .before .before .before .before .u16-at3 .ensures))) ∙ c .if5 .taken,
     )
 
--- src/signal_reader.rt:155:23
 sub-inner-refusal : tie.Need-sub-inner-refusal
-sub-inner-refusal c = omega (arith, right-bits (c .before .before .before .before .u16-at3 .result) (sym (c .before .before .before .wrong-bits .ensures) ∙ c .before .before .if4 .left))
+sub-inner-refusal c = omega (arith, right-bits (c .before .before .before .before .before .u16-at3 .result) (sym (c .before .before .before .before .wrong-bits .ensures) ∙ c .before .if4 .left))
 
--- src/signal_reader.rt:155:22
 cast-inner-refusal : tie.Need-cast-inner-refusal
 cast-inner-refusal c = search needs
 
--- src/signal_reader.rt:155:5
 inner-refusal-requires : tie.Need-inner-refusal-requires
-inner-refusal-requires c κs = omega (arith, right-bits (c .before .before .before .before .u16-at3 .result) (sym (c .before .before .before .wrong-bits .ensures) ∙ c .before .before .if4 .left), c .if5 .left ∙ c .before .filled-size .ensures)
+inner-refusal-requires c κs = omega (arith, right-bits (c .before .before .before .before .before .u16-at3 .result) (sym (c .before .before .before .before .wrong-bits .ensures) ∙ c .before .if4 .left), eqb-true (length (now (c .before .before .before .before .before .before .before .before .before .before .before .before .before .args .d))) (c .before .before .before .filled-size .result) (not-false (eqb (length (now (c .before .before .before .before .before .before .before .before .before .before .before .before .before .args .d))) (c .before .before .before .filled-size .result)) (sym (c .before .before .no .ensures) ∙ c .if5 .left)) ∙ c .before .before .before .filled-size .ensures)
 
--- src/signal_reader.rt:135:1
 returns-6 : tie.Need-returns-6
 unfolding signalRules
 returns-6 c =
     rw (
-      sym (c .before .before .before .before .before .before .before .before .before .before .before .wrong-length .ensures) ∙ c .before .before .before .before .before .before .before .before .before .before .if1 .left,
-      agrees (num 2 20 (now (c .before .before .before .before .before .before .before .before .before .before .before .before .before .args .d)) / 16384) 1 (sym (ap (λ (n : ℕ). n / 16384) (c .before .before .before .before .before .before .before .before .before .u16-at .ensures)) ∙ c .before .before .before .before .before .before .before .before .if2 .left),
-      agrees (num 2 22 (now (c .before .before .before .before .before .before .before .before .before .before .before .before .before .args .d))) 100 (sym (c .before .before .before .before .before .before .before .u16-at2 .ensures) ∙ c .before .before .before .before .before .before .if3 .left),
-      sym (c .before .before .before .before .wrong-bits .ensures ∙ ap wrongBits (c .before .before .before .before .before .u16-at3 .ensures)) ∙ c .before .before .before .if4 .left,
-      agrees (length (now (c .before .before .before .before .before .before .before .before .before .before .before .before .before .args .d))) (filled (32 + (num 2 28 (now (c .before .before .before .before .before .before .before .before .before .before .before .before .before .args .d))) / 8)) (c .before .if5 .left ∙ (c .before .before .filled-size .ensures ∙ ap (λ (n : ℕ). filled (32 + n / 8)) (c .before .before .before .before .before .u16-at3 .ensures))),
+      sym (c .before .before .before .before .before .before .before .before .before .before .before .before .wrong-length .ensures) ∙ c .before .before .before .before .before .before .before .before .before .before .before .if1 .left,
+      agrees (num 2 20 (now (c .before .before .before .before .before .before .before .before .before .before .before .before .before .before .args .d)) / 16384) 1 (sym (ap (λ (n : ℕ). n / 16384) (c .before .before .before .before .before .before .before .before .before .before .u16-at .ensures)) ∙ c .before .before .before .before .before .before .before .before .before .if2 .left),
+      agrees (num 2 22 (now (c .before .before .before .before .before .before .before .before .before .before .before .before .before .before .args .d))) 100 (sym (c .before .before .before .before .before .before .before .before .u16-at2 .ensures) ∙ c .before .before .before .before .before .before .before .if3 .left),
+      sym (c .before .before .before .before .before .wrong-bits .ensures ∙ ap wrongBits (c .before .before .before .before .before .before .u16-at3 .ensures)) ∙ c .before .before .if4 .left,
+      sym (c .before .before .before .no .ensures ∙ ap (λ (n : ℕ). not (eqb (length (now (c .before .before .before .before .before .before .before .before .before .before .before .before .before .before .args .d))) n)) (c .before .before .before .before .filled-size .ensures ∙ ap (λ (n : ℕ). filled (32 + n / 8)) (c .before .before .before .before .before .before .u16-at3 .ensures))) ∙ c .before .if5 .left,
     )
     (c .inner-refusal .ensures
-    ∙ ap (λ (n : ℕ). first (networkRules (signalOf (now (c .before .before .before .before .before .before .before .before .before .before .before .before .before .args .d)) .network) ++ bodyRules (signalOf (now (c .before .before .before .before .before .before .before .before .before .before .before .before .before .args .d)) .network .«message_type») (n / 8 - 20))) (c .before .before .before .before .before .u16-at3 .ensures))
+    ∙ ap (λ (n : ℕ). first (networkRules (signalOf (now (c .before .before .before .before .before .before .before .before .before .before .before .before .before .before .args .d)) .network) ++ bodyRules (signalOf (now (c .before .before .before .before .before .before .before .before .before .before .before .before .before .before .args .d)) .network .«message_type») (n / 8 - 20))) (c .before .before .before .before .before .before .u16-at3 .ensures))
 
 pub refusal-spec : {M : Type 1} → statement M
 refusal-spec =
@@ -139,10 +124,11 @@ refusal-spec =
     returns-3
     u16-at-requires-3
     wrong-bits-requires
-    returns-4
     add-filled-size
     cast-filled-size
     filled-size-requires
+    no-requires
+    returns-4
     returns-5
     sub-inner-refusal
     cast-inner-refusal

@@ -1,25 +1,19 @@
-use Rattle.pdu.specs.Reading.{wrongBits}
+-- `wrong_bits` meets its contract: the tests, joined, are those of the rule.
+-- Assumes nothing.
 use borrow.Author.Needs.{needs}
+use Rattle.pdu.specs.Reading.{wrongBits}
 use Rattle.pdu.proofs.signal_reader.wrong_bits.Statement.{statement}
 use Rattle.pdu.proofs.signal_reader.wrong_bits.Tie as tie
-use Rattle.pdu.proofs.signal_reader.wrong_bits.Reads as reads
-use Rattle.pdu.proofs.signal_reader.wrong_bits.Lts as lts
-use Rattle.wire.proofs.either.Reads as either-reads
-use Rattle.wire.proofs.no.Reads as no-reads
 
--- src/signal_reader.rt:43:18
 no-requires : tie.Need-no-requires
 no-requires c κs = search needs
 
--- src/signal_reader.rt:43:50
 mul-either : tie.Need-mul-either
 mul-either c = search needs
 
--- src/signal_reader.rt:43:5
 either-requires : tie.Need-either-requires
 either-requires c κs = search needs
 
--- src/signal_reader.rt:40:1
 returns : tie.Need-returns
 unfolding wrongBits
 returns c = rw (c .either .ensures, c .before .no .ensures)

@@ -1,57 +1,42 @@
-use Rattle.pdu.proofs.WritingLaws.{plain}
-use Rattle.pdu.specs.Writing.{signalHead}
+-- `put_network` meets its contract: the puts, each a splice at its own place, are one splice of a run of the PDU's bytes; a number put together
+-- from parts is the table's.
+-- Assumes nothing.
 use borrow.Author.Needs.{needs}
+use Rattle.pdu.specs.Writing.{signalHead}
+use Rattle.pdu.proofs.WritingLaws.{plain}
 use Rattle.pdu.proofs.signal_writer.put_network.Statement.{statement}
 use Rattle.pdu.proofs.signal_writer.put_network.Tie as tie
-use Rattle.pdu.proofs.signal_writer.put_network.Reads as reads
-use Rattle.pdu.proofs.signal_writer.put_network.Lts as lts
-use Rattle.pdu.proofs.signal_reader.slot_id.Reads as slot-id-reads
-use Rattle.wire.proofs.put_u16.Reads as put-u16-reads
-use Rattle.wire.proofs.put_u32.Reads as put-u32-reads
-use Rattle.wire.proofs.put_u64.Reads as put-u64-reads
-use Rattle.wire.proofs.put_u8.Reads as put-u8-reads
 
--- src/signal_writer.rt:69:5
 put-u16-requires : tie.Need-put-u16-requires
 put-u16-requires c κs = search needs
 
--- src/signal_writer.rt:70:5
 put-u8-requires : tie.Need-put-u8-requires
 put-u8-requires c κs = search needs
 
--- src/signal_writer.rt:71:5
 put-u8-requires-2 : tie.Need-put-u8-requires-2
 put-u8-requires-2 c κs = search needs
 
--- src/signal_writer.rt:72:5
 put-u8-requires-3 : tie.Need-put-u8-requires-3
 put-u8-requires-3 c κs = search needs
 
--- src/signal_writer.rt:73:5
 put-u8-requires-4 : tie.Need-put-u8-requires-4
 put-u8-requires-4 c κs = search needs
 
--- src/signal_writer.rt:74:5
 put-u16-requires-2 : tie.Need-put-u16-requires-2
 put-u16-requires-2 c κs = search needs
 
--- src/signal_writer.rt:75:28
 slot-id-requires : tie.Need-slot-id-requires
 slot-id-requires c κs = search needs
 
--- src/signal_writer.rt:75:5
 put-u32-requires : tie.Need-put-u32-requires
 put-u32-requires c κs = search needs
 
--- src/signal_writer.rt:76:5
 put-u64-requires : tie.Need-put-u64-requires
 put-u64-requires c κs = search needs
 
--- src/signal_writer.rt:65:1
 same-length : tie.Need-same-length
 same-length c = search needs
 
--- src/signal_writer.rt:65:1
 returns : tie.Need-returns
 unfolding signalHead
 returns c =

@@ -1,37 +1,28 @@
-use Rattle.pdu.proofs.WritingLaws.{and-true}
-use Rattle.wire.specs.Bytes.{num}
-use denote.Ref.{now}
+-- The Transmitter's `is_blank` meets its contract: the table's padding slots are the three that the code tests.
+-- Assumes nothing.
 use lib.Dec.{eqb}
+use denote.Ref.{now}
 use borrow.Author.Needs.{needs}
+use Rattle.wire.specs.Bytes.{num}
+use Rattle.pdu.proofs.WritingLaws.{and-true}
 use Rattle.pdu.proofs.transmitter_reader.is_blank.Statement.{statement}
 use Rattle.pdu.proofs.transmitter_reader.is_blank.Tie as tie
-use Rattle.pdu.proofs.transmitter_reader.is_blank.Reads as reads
-use Rattle.pdu.proofs.transmitter_reader.is_blank.Lts as lts
-use Rattle.wire.proofs.both.Reads as both-reads
-use Rattle.wire.proofs.u16_at.Reads as u16-at-reads
-use Rattle.wire.proofs.u24_at.Reads as u24-at-reads
 
--- src/transmitter_reader.rt:159:27
 u16-at-requires : tie.Need-u16-at-requires
 u16-at-requires c κs = search needs
 
--- src/transmitter_reader.rt:159:53
 u24-at-requires : tie.Need-u24-at-requires
 u24-at-requires c κs = search needs
 
--- src/transmitter_reader.rt:159:9
 both-requires : tie.Need-both-requires
 both-requires c κs = search needs
 
--- src/transmitter_reader.rt:160:16
 u16-at-requires-2 : tie.Need-u16-at-requires-2
 u16-at-requires-2 c κs = search needs
 
--- src/transmitter_reader.rt:160:5
 both-requires-2 : tie.Need-both-requires-2
 both-requires-2 c κs = search needs
 
--- src/transmitter_reader.rt:155:1
 returns : tie.Need-returns
 returns c =
     rw (

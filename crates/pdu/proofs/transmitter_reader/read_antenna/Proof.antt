@@ -1,42 +1,31 @@
-use Rattle.pdu.specs.Records.{transmitterOf}
+-- `read_antenna` meets its contract: each field is the number that the table places there.
+-- Assumes nothing.
 use borrow.Author.Needs.{needs}
+use Rattle.pdu.specs.Records.{transmitterOf}
 use Rattle.pdu.proofs.transmitter_reader.read_antenna.Statement.{statement}
 use Rattle.pdu.proofs.transmitter_reader.read_antenna.Tie as tie
-use Rattle.pdu.proofs.transmitter_reader.read_antenna.Reads as reads
-use Rattle.pdu.proofs.transmitter_reader.read_antenna.Lts as lts
-use Rattle.wire.proofs.u16_at.Reads as u16-at-reads
-use Rattle.wire.proofs.u32_at.Reads as u32-at-reads
-use Rattle.wire.proofs.u64_at.Reads as u64-at-reads
 
--- src/transmitter_reader.rt:113:12
 u64-at-requires : tie.Need-u64-at-requires
 u64-at-requires c κs = search needs
 
--- src/transmitter_reader.rt:114:12
 u64-at-requires-2 : tie.Need-u64-at-requires-2
 u64-at-requires-2 c κs = search needs
 
--- src/transmitter_reader.rt:115:12
 u64-at-requires-3 : tie.Need-u64-at-requires-3
 u64-at-requires-3 c κs = search needs
 
--- src/transmitter_reader.rt:116:13
 u32-at-requires : tie.Need-u32-at-requires
 u32-at-requires c κs = search needs
 
--- src/transmitter_reader.rt:117:13
 u32-at-requires-2 : tie.Need-u32-at-requires-2
 u32-at-requires-2 c κs = search needs
 
--- src/transmitter_reader.rt:118:13
 u32-at-requires-3 : tie.Need-u32-at-requires-3
 u32-at-requires-3 c κs = search needs
 
--- src/transmitter_reader.rt:119:18
 u16-at-requires : tie.Need-u16-at-requires
 u16-at-requires c κs = search needs
 
--- src/transmitter_reader.rt:108:1
 returns : tie.Need-returns
 unfolding transmitterOf
 returns c = λ i.

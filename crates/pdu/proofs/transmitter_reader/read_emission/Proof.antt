@@ -1,43 +1,31 @@
-use Rattle.pdu.specs.Records.{transmitterOf}
+-- `read_emission` meets its contract: each field is the number that the table places there.
+-- Assumes nothing.
 use borrow.Author.Needs.{needs}
+use Rattle.pdu.specs.Records.{transmitterOf}
 use Rattle.pdu.proofs.transmitter_reader.read_emission.Statement.{statement}
 use Rattle.pdu.proofs.transmitter_reader.read_emission.Tie as tie
-use Rattle.pdu.proofs.transmitter_reader.read_emission.Reads as reads
-use Rattle.pdu.proofs.transmitter_reader.read_emission.Lts as lts
-use Rattle.wire.proofs.u16_at.Reads as u16-at-reads
-use Rattle.wire.proofs.u32_at.Reads as u32-at-reads
-use Rattle.wire.proofs.u64_at.Reads as u64-at-reads
-use Rattle.wire.proofs.u8_at.Reads as u8-at-reads
 
--- src/transmitter_reader.rt:128:16
 u8-at-requires : tie.Need-u8-at-requires
 u8-at-requires c κs = search needs
 
--- src/transmitter_reader.rt:129:20
 u64-at-requires : tie.Need-u64-at-requires
 u64-at-requires c κs = search needs
 
--- src/transmitter_reader.rt:130:20
 u32-at-requires : tie.Need-u32-at-requires
 u32-at-requires c κs = search needs
 
--- src/transmitter_reader.rt:131:16
 u32-at-requires-2 : tie.Need-u32-at-requires-2
 u32-at-requires-2 c κs = search needs
 
--- src/transmitter_reader.rt:132:17
 u16-at-requires : tie.Need-u16-at-requires
 u16-at-requires c κs = search needs
 
--- src/transmitter_reader.rt:133:17
 u16-at-requires-2 : tie.Need-u16-at-requires-2
 u16-at-requires-2 c κs = search needs
 
--- src/transmitter_reader.rt:134:14
 u16-at-requires-3 : tie.Need-u16-at-requires-3
 u16-at-requires-3 c κs = search needs
 
--- src/transmitter_reader.rt:123:1
 returns : tie.Need-returns
 unfolding transmitterOf
 returns c = λ i.

@@ -1,38 +1,29 @@
-use Rattle.pdu.proofs.ReadingLaws.{differs, agrees, right-length}
-use Rattle.pdu.specs.Reading.{wrongSync, transmitterRules}
-use Rattle.wire.specs.Bytes.{num}
-use native.Mathlib.Omega.{arith}
-use denote.Ref.{now}
+-- The Transmitter's `refusal` meets its contract: at each return the tests on the way say that its rule is the first broken one, or that none
+-- is. Once rule 4 is passed the slice has the bytes that the later tests read (`right-length`).
+-- Assumes nothing.
+use mathlib.Core.Path.{sym, ap, _∙_}
 use lib.ListN.{length}
-use mathlib.Core.Path.{_≡_, sym, ap, _∙_}
+use denote.Ref.{now}
+use native.Mathlib.Omega.{arith}
 use borrow.Author.Needs.{needs}
+use Rattle.wire.specs.Bytes.{num}
+use Rattle.pdu.specs.Reading.{wrongSync, transmitterRules}
+use Rattle.pdu.proofs.ReadingLaws.{differs, agrees, right-length}
 use Rattle.pdu.proofs.transmitter_reader.refusal.Statement.{statement}
 use Rattle.pdu.proofs.transmitter_reader.refusal.Tie as tie
-use Rattle.pdu.proofs.transmitter_reader.refusal.Reads as reads
-use Rattle.pdu.proofs.transmitter_reader.refusal.Lts as lts
-use Rattle.pdu.proofs.common.wrong_length.Reads as wrong-length-reads
-use Rattle.pdu.proofs.transmitter_reader.read_sync.Reads as read-sync-reads
-use Rattle.pdu.proofs.transmitter_reader.wrong_fixed.Reads as wrong-fixed-reads
-use Rattle.pdu.proofs.transmitter_reader.wrong_sync.Reads as wrong-sync-reads
-use Rattle.wire.proofs.u16_at.Reads as u16-at-reads
-use Rattle.wire.proofs.u8_at.Reads as u8-at-reads
 
--- src/transmitter_reader.rt:74:8
 wrong-length-requires : tie.Need-wrong-length-requires
 wrong-length-requires c κs = search needs
 
--- src/transmitter_reader.rt:75:9
 returns : tie.Need-returns
 unfolding transmitterRules
 returns c =
     rw
     (sym (c .before .wrong-length .ensures) ∙ c .if1 .taken)
 
--- src/transmitter_reader.rt:77:8
 wrong-fixed-requires : tie.Need-wrong-fixed-requires
 wrong-fixed-requires c κs = omega (arith, right-length 104 (now (c .before .before .before .args .d)) (sym (c .before .wrong-length .ensures) ∙ c .if1 .left))
 
--- src/transmitter_reader.rt:78:9
 returns-2 : tie.Need-returns-2
 unfolding transmitterRules
 returns-2 c =
@@ -41,11 +32,9 @@ returns-2 c =
       sym (c .before .wrong-fixed .ensures) ∙ c .if2 .taken,
     )
 
--- src/transmitter_reader.rt:80:8
 u8-at-requires : tie.Need-u8-at-requires
 u8-at-requires c κs = omega (arith, right-length 104 (now (c .before .before .before .before .before .args .d)) (sym (c .before .before .before .wrong-length .ensures) ∙ c .before .before .if1 .left))
 
--- src/transmitter_reader.rt:81:9
 returns-3 : tie.Need-returns-3
 unfolding transmitterRules
 returns-3 c =
@@ -55,11 +44,9 @@ returns-3 c =
       differs (num 1 100 (now (c .before .before .before .before .before .before .before .args .d))) 8 (λ e. c .if3 .taken (c .before .u8-at .ensures ∙ e)),
     )
 
--- src/transmitter_reader.rt:83:8
 u16-at-requires : tie.Need-u16-at-requires
 u16-at-requires c κs = omega (arith, right-length 104 (now (c .before .before .before .before .before .before .before .args .d)) (sym (c .before .before .before .before .before .wrong-length .ensures) ∙ c .before .before .before .before .if1 .left))
 
--- src/transmitter_reader.rt:84:9
 returns-4 : tie.Need-returns-4
 unfolding transmitterRules
 returns-4 c =
@@ -70,7 +57,6 @@ returns-4 c =
       differs (num 2 70 (now (c .before .before .before .before .before .before .before .before .before .args .d))) 0 (λ e. c .if4 .taken (c .before .u16-at .ensures ∙ e)),
     )
 
--- src/transmitter_reader.rt:87:9
 returns-5 : tie.Need-returns-5
 unfolding transmitterRules
 returns-5 c =
@@ -82,15 +68,12 @@ returns-5 c =
       differs (length (now (c .before .before .before .before .before .before .before .before .before .before .args .d))) 112 (c .if5 .taken),
     )
 
--- src/transmitter_reader.rt:89:19
 read-sync-requires : tie.Need-read-sync-requires
 read-sync-requires c κs = search needs
 
--- src/transmitter_reader.rt:89:8
 wrong-sync-requires : tie.Need-wrong-sync-requires
 wrong-sync-requires c κs = search needs
 
--- src/transmitter_reader.rt:90:9
 returns-6 : tie.Need-returns-6
 unfolding transmitterRules
 returns-6 c =
@@ -103,7 +86,6 @@ returns-6 c =
       sym (c .before .wrong-sync .ensures ∙ ap wrongSync (c .before .before .read-sync .ensures)) ∙ c .if6 .taken,
     )
 
--- src/transmitter_reader.rt:70:1
 returns-7 : tie.Need-returns-7
 unfolding transmitterRules
 returns-7 c =

@@ -1,50 +1,37 @@
-use Rattle.pdu.specs.Writing.{transmitterBytes}
+-- `put_antenna` meets its contract: the puts, each a splice at its own place, are one splice of a run of the PDU's bytes.
+-- Assumes nothing.
 use borrow.Author.Needs.{needs}
+use Rattle.pdu.specs.Writing.{transmitterBytes}
 use Rattle.pdu.proofs.transmitter_writer.put_antenna.Statement.{statement}
 use Rattle.pdu.proofs.transmitter_writer.put_antenna.Tie as tie
-use Rattle.pdu.proofs.transmitter_writer.put_antenna.Reads as reads
-use Rattle.pdu.proofs.transmitter_writer.put_antenna.Lts as lts
-use Rattle.wire.proofs.put_u16.Reads as put-u16-reads
-use Rattle.wire.proofs.put_u32.Reads as put-u32-reads
-use Rattle.wire.proofs.put_u64.Reads as put-u64-reads
 
--- src/transmitter_writer.rt:50:5
 put-u64-requires : tie.Need-put-u64-requires
 put-u64-requires c κs = search needs
 
--- src/transmitter_writer.rt:51:5
 put-u64-requires-2 : tie.Need-put-u64-requires-2
 put-u64-requires-2 c κs = search needs
 
--- src/transmitter_writer.rt:52:5
 put-u64-requires-3 : tie.Need-put-u64-requires-3
 put-u64-requires-3 c κs = search needs
 
--- src/transmitter_writer.rt:53:5
 put-u32-requires : tie.Need-put-u32-requires
 put-u32-requires c κs = search needs
 
--- src/transmitter_writer.rt:54:5
 put-u32-requires-2 : tie.Need-put-u32-requires-2
 put-u32-requires-2 c κs = search needs
 
--- src/transmitter_writer.rt:55:5
 put-u32-requires-3 : tie.Need-put-u32-requires-3
 put-u32-requires-3 c κs = search needs
 
--- src/transmitter_writer.rt:56:5
 put-u16-requires : tie.Need-put-u16-requires
 put-u16-requires c κs = search needs
 
--- src/transmitter_writer.rt:57:5
 put-u16-requires-2 : tie.Need-put-u16-requires-2
 put-u16-requires-2 c κs = search needs
 
--- src/transmitter_writer.rt:46:1
 same-length : tie.Need-same-length
 same-length c = search needs
 
--- src/transmitter_writer.rt:46:1
 returns : tie.Need-returns
 unfolding transmitterBytes
 returns c =

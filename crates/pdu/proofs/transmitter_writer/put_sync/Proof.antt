@@ -1,37 +1,28 @@
-use Rattle.pdu.specs.Writing.{transmitterBytes}
+-- `put_sync` meets its contract: the puts, each a splice at its own place, are one splice of a run of the PDU's bytes.
+-- Assumes nothing.
 use borrow.Author.Needs.{needs}
+use Rattle.pdu.specs.Writing.{transmitterBytes}
 use Rattle.pdu.proofs.transmitter_writer.put_sync.Statement.{statement}
 use Rattle.pdu.proofs.transmitter_writer.put_sync.Tie as tie
-use Rattle.pdu.proofs.transmitter_writer.put_sync.Reads as reads
-use Rattle.pdu.proofs.transmitter_writer.put_sync.Lts as lts
-use Rattle.wire.proofs.put_u32.Reads as put-u32-reads
-use Rattle.wire.proofs.put_u8.Reads as put-u8-reads
 
--- src/transmitter_writer.rt:90:5
 put-u8-requires : tie.Need-put-u8-requires
 put-u8-requires c κs = search needs
 
--- src/transmitter_writer.rt:91:5
 put-u8-requires-2 : tie.Need-put-u8-requires-2
 put-u8-requires-2 c κs = search needs
 
--- src/transmitter_writer.rt:92:5
 put-u8-requires-3 : tie.Need-put-u8-requires-3
 put-u8-requires-3 c κs = search needs
 
--- src/transmitter_writer.rt:93:5
 put-u8-requires-4 : tie.Need-put-u8-requires-4
 put-u8-requires-4 c κs = search needs
 
--- src/transmitter_writer.rt:94:5
 put-u32-requires : tie.Need-put-u32-requires
 put-u32-requires c κs = search needs
 
--- src/transmitter_writer.rt:86:1
 same-length : tie.Need-same-length
 same-length c = search needs
 
--- src/transmitter_writer.rt:86:1
 returns : tie.Need-returns
 unfolding transmitterBytes
 returns c =

@@ -1,30 +1,25 @@
-use Rattle.pdu.specs.Writing.{transmitterWriting}
-use borrow.Author.Tests.{lt-ltb, le-ltb}
+-- The Transmitter writer's `refusal` meets its contract: at each return the tests on the way say that its rule is the first broken one, or
+-- that none is.
+-- Assumes nothing.
 use mathlib.Core.Path.{sym, _∙_}
+use borrow.Author.Tests.{lt-ltb, le-ltb}
 use borrow.Author.Needs.{needs}
+use Rattle.pdu.specs.Writing.{transmitterWriting}
 use Rattle.pdu.proofs.transmitter_writer.refusal.Statement.{statement}
 use Rattle.pdu.proofs.transmitter_writer.refusal.Tie as tie
-use Rattle.pdu.proofs.transmitter_writer.refusal.Reads as reads
-use Rattle.pdu.proofs.transmitter_writer.refusal.Lts as lts
-use Rattle.pdu.proofs.common.wrong_version.Reads as wrong-version-reads
-use Rattle.pdu.proofs.transmitter_reader.wrong_sync.Reads as wrong-sync-reads
 
--- src/transmitter_writer.rt:17:8
 wrong-version-requires : tie.Need-wrong-version-requires
 wrong-version-requires c κs = search needs
 
--- src/transmitter_writer.rt:18:9
 returns : tie.Need-returns
 unfolding transmitterWriting
 returns c =
     rw
     (sym (c .before .wrong-version .ensures) ∙ c .if1 .taken)
 
--- src/transmitter_writer.rt:20:8
 wrong-sync-requires : tie.Need-wrong-sync-requires
 wrong-sync-requires c κs = search needs
 
--- src/transmitter_writer.rt:21:9
 returns-2 : tie.Need-returns-2
 unfolding transmitterWriting
 returns-2 c =
@@ -33,7 +28,6 @@ returns-2 c =
       sym (c .before .wrong-sync .ensures) ∙ c .if2 .taken,
     )
 
--- src/transmitter_writer.rt:24:9
 returns-3 : tie.Need-returns-3
 unfolding transmitterWriting
 returns-3 c =
@@ -43,7 +37,6 @@ returns-3 c =
       lt-ltb (c .before .before .before .before .before .args .room) 112 (c .if3 .taken),
     )
 
--- src/transmitter_writer.rt:14:1
 returns-4 : tie.Need-returns-4
 unfolding transmitterWriting
 returns-4 c =

@@ -1,3 +1,5 @@
+-- `pdu::words::at` meets its contract: the test says whether the word is there, and its last two bytes hold all three fields (`word-low`).
+-- Assumes nothing.
 use Prim.Native.Nat.{_+_, _*_}
 use mathlib.Core.Path.{_≡_}
 use mathlib.Core.Bool.{true, false}
@@ -11,44 +13,31 @@ use Rattle.pdu.specs.Words.{wordsIn, wordAt}
 use Rattle.pdu.proofs.WordLaws.{word-low}
 use Rattle.pdu.proofs.words.at.Statement.{statement}
 use Rattle.pdu.proofs.words.at.Tie as tie
-use Rattle.pdu.proofs.words.at.Reads as reads
-use Rattle.pdu.proofs.words.at.Lts as lts
-use Rattle.pdu.proofs.words.count.Reads as count-reads
-use Rattle.wire.proofs.u16_at.Reads as u16-at-reads
 
--- src/words.rt:24:12
 count-requires : tie.Need-count-requires
 count-requires c κs = search needs
 
--- src/words.rt:25:52
 mul-u16-at : tie.Need-mul-u16-at
 mul-u16-at c = search needs
 
--- src/words.rt:25:38
 add-u16-at : tie.Need-add-u16-at
 add-u16-at c = search needs
 
--- src/words.rt:25:38
 add-u16-at-2 : tie.Need-add-u16-at-2
 add-u16-at-2 c = search needs
 
--- src/words.rt:25:13
 u16-at-requires : tie.Need-u16-at-requires
 u16-at-requires c κs = search needs
 
--- src/words.rt:27:21
 cast-t11 : tie.Need-cast-t11
 cast-t11 c = search needs
 
--- src/words.rt:28:20
 cast-t14 : tie.Need-cast-t14
 cast-t14 c = search needs
 
--- src/words.rt:29:23
 cast-t17 : tie.Need-cast-t17
 cast-t17 c = search needs
 
--- src/words.rt:21:1
 returns : tie.Need-returns
 unfolding wordAt
 returns c =
@@ -56,7 +45,6 @@ returns c =
     let here : ltb (a .i) (wordsIn (length (now (a .body)))) ≡ true = lt-ltb (a .i) (wordsIn (length (now (a .body)))) (omega arith) in
     rw (here, word-low (6 + 10 * a .i) (now (a .body)), c .u16-at .ensures)
 
--- src/words.rt:21:1
 returns-2 : tie.Need-returns-2
 unfolding wordAt
 returns-2 c =

@@ -1,0 +1,2 @@
+-- The one statement of the starred cases.
+pub mod Starred

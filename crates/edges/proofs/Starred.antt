@@ -1,0 +1,11 @@
+-- Every starred case of document 01 holds, all in one statement: the checker computes each row of the table.
+-- Assumes nothing.
+use mathlib.Core.Path.{_≡_, refl}
+use mathlib.Core.Bool.{true}
+use Rattle.pdu.specs.Records.{headerOf, transmitterOf, signalOf}
+use Rattle.pdu.specs.Reading.{wrongVersion, wrongType, wrongLength, wrongFixed, wrongSync, wrongBits, networkRules, bodyRules, transmitterRules, signalRules, readingRules, refusal, content, reading}
+use Rattle.edges.specs.Cases.{all-hold, starred-cases}
+
+pub starred : all-hold starred-cases ≡ true
+unfolding wrongVersion wrongType wrongLength wrongFixed wrongSync wrongBits networkRules bodyRules transmitterRules signalRules readingRules refusal content reading transmitterOf signalOf
+starred = refl

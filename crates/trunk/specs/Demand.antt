@@ -1,0 +1,84 @@
+-- Demand 3, sentence by sentence (01, "What demand 3 means"): what holds after every fair list of calls.
+use Prim.Native.Nat.{ℕ, _+_, _≤_, _<_}
+use mathlib.Core.Path.{_≡_}
+use mathlib.Core.List.{List, [], _∷_}
+use lib.ListN.{length, getD, take}
+use Rattle.pdu.specs.Reading.{reading}
+use Rattle.station.specs.Runs.{after, answers}
+use Rattle.station.specs.declared.Station.{Station}
+use Rattle.trunk.specs.Kinds.{kindOf, headSize}
+use Rattle.trunk.specs.Record.{recordOf, replyOf}
+use Rattle.trunk.specs.Near.{rows}
+use Rattle.trunk.specs.Far.{leastOutput, replyAfter}
+use Rattle.trunk.specs.Line.{Entry, offer-made, send-made, reply-heard, record-heard, clock-set, Line, to-near, to-far, run, accepted, putOut, acknowledged, events, stationSaid}
+use Rattle.trunk.specs.declared.Offer.the-variants.{Refused as offerRefused, Taken}
+use Rattle.trunk.specs.declared.Sent.the-variants.{Refused as sendRefused, Size}
+use Rattle.trunk.specs.declared.Reply.the-variants.{Refused as replyRefused, Acknowledged}
+use Rattle.trunk.specs.declared.Arrival.the-variants.{Refused as arrivalRefused, Delivered, Repeat, Early}
+
+-- PDU i of those accepted, and its record: "kind, i, PDU i"
+abbrev pub pduAt : List Entry → ℕ → List ℕ
+pduAt log i = getD (accepted log) i []
+
+abbrev pub recordAt : List Entry → ℕ → List ℕ
+recordAt log i = recordOf (kindOf (reading (pduAt log i))) i (pduAt log i)
+
+-- k: "k counts them", the PDUs put out
+abbrev pub count : List Entry → ℕ
+count log = length (putOut log)
+
+-- the numbers in an answer and in a written record are those of the log: an offer's number, a send's record and size, a reply's count, a
+-- delivered PDU's size, and the count in each reply written
+abbrev pub Says : Entry → List Entry → Type 0
+Says (offer-made d (offerRefused n)) log = Unit {0}
+Says (offer-made d (Taken i)) log = i ≡ length (accepted log)
+Says (send-made i (sendRefused n) out) log = Unit {0}
+Says (send-made i (Size n) out) log =
+    (i < length (accepted log)) × (take n out ≡ recordAt log i) × (n ≡ length (recordAt log i))
+Says (reply-heard r (replyRefused n)) log = Unit {0}
+Says (reply-heard r (Acknowledged n)) log = n ≡ acknowledged (reply-heard r (Acknowledged n) ∷ log)
+Says (record-heard r (arrivalRefused n) reply out) log = Unit {0}
+Says (record-heard r (Delivered size answer) reply out) log =
+    (size ≡ length (pduAt log (count log))) × (take headSize reply ≡ replyOf (count log + 1))
+Says (record-heard r Repeat reply out) log = take headSize reply ≡ replyOf (count log)
+Says (record-heard r Early reply out) log = take headSize reply ≡ replyOf (count log)
+Says (clock-set t a) log = Unit {0}
+
+-- every entry says so of the log before it
+abbrev pub AllSay : List Entry → Type 0
+AllSay [] = Unit {0}
+AllSay (e ∷ log) = Says e log × AllSay log
+
+-- what demand 3 claims of a line whose far end started with this station
+pub record Demand3 (station : Station) (l : Line) : Type 0 where
+  -- what the far end put out is the first k PDUs accepted, each once, in order
+  pub in-order : putOut (l .log) ≡ take (count (l .log)) (accepted (l .log))
+  -- acknowledged is at most k
+  pub acknowledged-put-out : acknowledged (l .log) ≤ count (l .log)
+  -- k is at most the number accepted
+  pub put-out-accepted : count (l .log) ≤ length (accepted (l .log))
+  -- no more than eight are accepted and not acknowledged
+  pub window : length (accepted (l .log)) ≤ acknowledged (l .log) + rows
+  -- the ends' own counts are these
+  pub near-accepted : l .near .accepted ≡ length (accepted (l .log))
+  pub near-acknowledged : l .near .acknowledged ≡ acknowledged (l .log)
+  pub far-count : l .far .count ≡ count (l .log)
+  -- the far station stands as a fresh one given the PDUs put out and the clock calls, in their order
+  pub station-stands : l .far .station ≡ after station (events (l .log))
+  -- and it has answered as that one
+  pub station-answered : stationSaid (l .log) ≡ answers station (events (l .log))
+  -- the numbers in answers, sizes, sent records and written replies are these too
+  pub all-say : AllSay (l .log)
+  -- if k is below accepted, record k handed over with room, and its reply next, make the acknowledged count k + 1
+  pub next :
+      count (l .log) < length (accepted (l .log))
+      → (reply out : List ℕ)
+      → headSize ≤ length reply
+      → leastOutput ≤ length out
+      → run l
+      (to-far (recordAt (l .log) (count (l .log))) reply out
+      ∷ to-near (take headSize (replyAfter (l .far) (recordAt (l .log) (count (l .log))) reply (length out)))
+      ∷ [])
+      .near
+      .acknowledged
+      ≡ count (l .log) + 1

@@ -1,0 +1,91 @@
+-- The far end: a record's arrival and the clock (01, "The trunk").
+use Prim.Native.Nat.{ℕ, _+_}
+use mathlib.Core.Bool.{Bool, cond, _||_}
+use mathlib.Core.List.{List, [], _∷_, _++_}
+use lib.ListN.{length, drop}
+use lib.Dec.{eqb, ltb}
+use Rattle.wire.specs.First.{Refusal, _given-when_, first}
+use Rattle.station.specs.Units.{fresh}
+use Rattle.station.specs.Hearing.{heard}
+use Rattle.station.specs.Clock.{clocked}
+use Rattle.station.specs.declared.Station.{Station}
+use Rattle.trunk.specs.Kinds.{headSize}
+use Rattle.trunk.specs.Record.{replyOf, numberIn, carriedIn, unknownKind, wrongSize, isReply, lastOfAll, wrongCarried}
+use Rattle.trunk.specs.declared.Far.{Far}
+use Rattle.trunk.specs.declared.Arrival.{Arrival}
+use Rattle.trunk.specs.declared.Arrival.the-variants.{Refused, Delivered, Repeat, Early}
+use Rattle.trunk.specs.declared.Arrived.{Arrived}
+use Rattle.trunk.specs.declared.Ticked.{Ticked}
+
+-- "a count k, first 0, and a station"
+abbrev pub freshFar : Station → Far
+freshFar s = record { count = 0; station = s }
+
+-- the least output: the longest PDU that the trunk carries ("the output under 180")
+abbrev pub leastOutput : ℕ
+leastOutput = 180
+
+-- "16 if the reply buffer is under 5 bytes or the output under 180"
+abbrev pub noRoom : ℕ → ℕ → Bool
+noRoom replyRoom room = ltb replyRoom headSize || ltb room leastOutput
+
+-- "On a record: 20, 21, 29, 25, 22, then 16"
+unfoldable pub arrivalRules : List ℕ → ℕ → ℕ → List Refusal
+arrivalRules r replyRoom room =
+    (20 given-when unknownKind r)
+    ∷ (21 given-when wrongSize r)
+    ∷ (29 given-when isReply r)
+    ∷ (25 given-when lastOfAll r)
+    ∷ (22 given-when wrongCarried r)
+    ∷ (16 given-when noRoom replyRoom room)
+    ∷ []
+
+-- "Number k: the PDU is written .., the station steps .., k grows by one"
+abbrev pub delivered : Far → List ℕ → Arrived
+delivered far r =
+    record {
+      far = record { count = far .count + 1; station = heard (far .station) (carriedIn r) .station };
+      answer = Delivered (length (carriedIn r)) (heard (far .station) (carriedIn r) .answer);
+    }
+
+-- a record that was not refused: by its number, delivered, "Below k: repeat. Above k: early, dropped"
+abbrev pub placed : Far → List ℕ → Arrived
+placed far r =
+    cond (eqb (numberIn r) (far .count)) (delivered far r)
+    (cond (ltb (numberIn r) (far .count)) (record { far = far; answer = Repeat }) (record { far = far; answer = Early }))
+
+-- what an arrival answers and leaves
+unfoldable pub arrived : Far → List ℕ → ℕ → ℕ → Arrived
+arrived far r replyRoom room =
+    cond (eqb (first (arrivalRules r replyRoom room)) 0)
+    (placed far r)
+    (record { far = far; answer = Refused (first (arrivalRules r replyRoom room)) })
+
+-- what it leaves in the reply buffer: "All three write a reply with the new k at its buffer's start"
+unfoldable pub replyAfter : Far → List ℕ → List ℕ → ℕ → List ℕ
+replyAfter far r reply room =
+    cond (eqb (first (arrivalRules r (length reply) room)) 0)
+    (replyOf (placed far r .far .count) ++ drop headSize reply)
+    reply
+
+-- what it leaves in the output: "only the first touches the output"
+unfoldable pub outputAfter : Far → List ℕ → ℕ → List ℕ → List ℕ
+outputAfter far r replyRoom out =
+    cond (eqb (first (arrivalRules r replyRoom (length out))) 0)
+    (cond (eqb (numberIn r) (far .count)) (carriedIn r ++ drop (length (carriedIn r)) out) out)
+    out
+
+-- the far end's clock call: its station's
+unfoldable pub ticked : Far → ℕ → Ticked
+ticked far t =
+    record {
+      far = record { count = far .count; station = clocked (far .station) t .station };
+      answer = clocked (far .station) t .answer;
+    }
+
+-- document 01's number for each answer of an arrival
+abbrev pub numberOfArrival : Arrival → ℕ
+numberOfArrival (Refused n) = n
+numberOfArrival (Delivered size answer) = 0
+numberOfArrival Repeat = 0
+numberOfArrival Early = 0

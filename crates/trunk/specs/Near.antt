@@ -1,0 +1,152 @@
+-- The near end: offering, sending and taking a reply (01, "The trunk").
+use Prim.Native.Nat.{ℕ, _+_, _-_, _*_, _%_}
+use mathlib.Core.Bool.{Bool, cond, not, _&&_}
+use mathlib.Core.List.{List, [], _∷_, _++_}
+use lib.ListN.{length, take, drop}
+use lib.Dec.{eqb, leb, ltb}
+use Rattle.wire.specs.Bytes.{num, splice}
+use Rattle.wire.specs.First.{Refusal, _given-when_, first}
+use Rattle.pdu.specs.Reading.{reading, numberOf}
+use Rattle.pdu.specs.Writing.{writtenForm}
+use Rattle.pdu.specs.declared.Reading.{Reading}
+use Rattle.trunk.specs.Kinds.{kindOf, noKind, load, isUnknown, recordSize, replyKind}
+use Rattle.trunk.specs.Record.{recordOf, numberIn, lastNumber, unknownKind, wrongSize, isReply}
+use Rattle.trunk.specs.declared.Near.{Near}
+use Rattle.trunk.specs.declared.Offer.the-variants.{Refused as offerRefused, Taken}
+use Rattle.trunk.specs.declared.Offered.{Offered}
+use Rattle.trunk.specs.declared.Sent.{Sent}
+use Rattle.trunk.specs.declared.Sent.the-variants.{Refused as sendRefused, Size}
+use Rattle.trunk.specs.declared.Reply.the-variants.{Refused as replyRefused, Acknowledged}
+use Rattle.trunk.specs.declared.Replied.{Replied}
+
+-- "a lent store of eight rows of 192 bytes"
+abbrev pub rows : ℕ
+rows = 8
+
+abbrev pub rowSize : ℕ
+rowSize = 192
+
+abbrev pub storeSize : ℕ
+storeSize = rows * rowSize
+
+-- "the first byte of row (number mod 8)"
+abbrev pub rowStart : ℕ → ℕ
+rowStart number = rowSize * (number % rows)
+
+-- "the counts accepted and acknowledged, both first 0"
+abbrev pub freshNear : Near
+freshNear = record { accepted = 0; acknowledged = 0 }
+
+-- 28: "store is not 1,536 bytes"
+abbrev pub wrongStore : List ℕ → Bool
+wrongStore store = not (eqb (length store) storeSize)
+
+-- ---- offering
+
+-- "Order: 28, the reader's number, 23, 25, 24", by the store's length and what reading answered
+unfoldable pub offerRulesOf : Near → ℕ → Reading → List Refusal
+offerRulesOf near size answer =
+    (28 given-when not (eqb size storeSize))
+    ∷ (numberOf answer given-when not (eqb (numberOf answer) 0))
+    ∷ (23 given-when eqb (kindOf answer) noKind)
+    ∷ (25 given-when eqb (near .accepted) lastNumber)
+    ∷ (24 given-when leb rows (near .accepted - near .acknowledged))
+    ∷ []
+
+abbrev pub offerRules : Near → List ℕ → List ℕ → List Refusal
+offerRules near store d = offerRulesOf near (length store) (reading d)
+
+-- the record that an offer of d writes: "The PDU takes the accepted count as its number"
+abbrev pub offerRecord : Near → List ℕ → List ℕ
+offerRecord near d = recordOf (kindOf (reading d)) (near .accepted) (writtenForm d)
+
+-- what an offer answers and leaves
+unfoldable pub offered : Near → List ℕ → List ℕ → Offered
+offered near store d =
+    cond (eqb (first (offerRules near store d)) 0)
+    (record {
+      near = record { accepted = near .accepted + 1; acknowledged = near .acknowledged };
+      answer = Taken (near .accepted);
+    })
+    (record { near = near; answer = offerRefused (first (offerRules near store d)) })
+
+-- what an offer leaves in the store: "Offering writes the record from the first byte of row (number mod 8)"
+unfoldable pub storeAfter : Near → List ℕ → List ℕ → List ℕ
+storeAfter near store d =
+    cond (eqb (first (offerRules near store d)) 0) (splice (rowStart (near .accepted)) (offerRecord near d) store) store
+
+-- ---- sending
+
+-- "numbers from acknowledged up to accepted, the last left out, are held"
+abbrev pub isHeld : Near → ℕ → Bool
+isHeld near i = leb (near .acknowledged) i && ltb i (near .accepted)
+
+-- the kind byte of number i's row
+abbrev pub rowKind : List ℕ → ℕ → ℕ
+rowKind store i = num 1 (rowStart i) store
+
+-- "Sending number i: 28, 26, 20 or 29 by the row's kind byte, 16"
+unfoldable pub sendRules : Near → List ℕ → ℕ → ℕ → List Refusal
+sendRules near store i room =
+    (28 given-when wrongStore store)
+    ∷ (26 given-when not (isHeld near i))
+    ∷ (20 given-when isUnknown (load (rowKind store i)))
+    ∷ (29 given-when eqb (rowKind store i) replyKind)
+    ∷ (16 given-when ltb room (recordSize (rowKind store i)))
+    ∷ []
+
+-- "the row's bytes as they stand, to the length of their kind"
+abbrev pub rowRecord : List ℕ → ℕ → List ℕ
+rowRecord store i = take (recordSize (rowKind store i)) (drop (rowStart i) store)
+
+-- what a send answers
+unfoldable pub sent : Near → List ℕ → ℕ → ℕ → Sent
+sent near store i room =
+    cond (eqb (first (sendRules near store i room)) 0)
+    (Size (recordSize (rowKind store i)))
+    (sendRefused (first (sendRules near store i room)))
+
+-- what a send leaves in the lent buffer
+unfoldable pub sentOut : Near → List ℕ → ℕ → List ℕ → List ℕ
+sentOut near store i out =
+    cond (eqb (first (sendRules near store i (length out))) 0)
+    (rowRecord store i ++ drop (recordSize (rowKind store i)) out)
+    out
+
+-- ---- taking a reply
+
+-- "Taking a reply: 20, 21, 29, 27"
+unfoldable pub replyRules : Near → List ℕ → List Refusal
+replyRules near r =
+    (20 given-when unknownKind r)
+    ∷ (21 given-when wrongSize r)
+    ∷ (29 given-when not (isReply r))
+    ∷ (27 given-when ltb (near .accepted) (numberIn r))
+    ∷ []
+
+-- "below the acknowledged count it changes nothing, else that count becomes its number"
+abbrev pub acknowledgedAfter : ℕ → ℕ → ℕ
+acknowledgedAfter count number = cond (ltb number count) count number
+
+-- what taking a reply answers and leaves
+unfoldable pub replied : Near → List ℕ → Replied
+replied near r =
+    cond (eqb (first (replyRules near r)) 0)
+    (record {
+      near = record { accepted = near .accepted; acknowledged = acknowledgedAfter (near .acknowledged) (numberIn r) };
+      answer = Acknowledged (acknowledgedAfter (near .acknowledged) (numberIn r));
+    })
+    (record { near = near; answer = replyRefused (first (replyRules near r)) })
+
+-- document 01's number and value for each answer of the near end
+abbrev pub numberOfOffer : Rattle.trunk.specs.declared.Offer.Offer → ℕ
+numberOfOffer (offerRefused n) = n
+numberOfOffer (Taken i) = 0
+
+abbrev pub numberOfSent : Sent → ℕ
+numberOfSent (sendRefused n) = n
+numberOfSent (Size n) = 0
+
+abbrev pub numberOfReply : Rattle.trunk.specs.declared.Reply.Reply → ℕ
+numberOfReply (replyRefused n) = n
+numberOfReply (Acknowledged n) = 0
