@@ -28,7 +28,7 @@ use Rattle.station.specs.declared.Unit.{Unit}
 use Rattle.station.specs.declared.Station.{Station}
 use Rattle.station.specs.declared.Heard.{Heard}
 use Rattle.station.specs.declared.Made.{Made}
-use Rattle.station.proofs.ReaderLaws.{refused-small}
+use Rattle.station.proofs.ReaderLaws.{refused-not-42}
 use Rattle.station.proofs.PlaceLaws.{sender-place, agreeing, IsJ00, says-j00}
 use Rattle.station.proofs.Table.{Joined, Passed, Table, unread, no-room, entered, again, stranger, other-net, other-id, not-fine, not-in, joined, positioned, passed, back, ticked, joined-row, only-by-rules}
 use Rattle.station.proofs.Changes.{same-or-not}
@@ -104,7 +104,7 @@ pub answered-42 : (s : Station) → length (s .units) ≡ 16 → (c : Call) → 
 answered-42 s sized c = (λ e. go (only-by-rules s sized c) e, λ j. ap (λ (h : Heard). h .answer) (joins-outcome s c j))
   where
     go : {c : Call} {n : ℕ} {s′ : Station} → Table s c n s′ → n ≡ 42 → Joins s c
-    go (unread {d = d} n e) q = absurd (omega (arith, refused-small d n e))
+    go (unread {d = d} n e) q = absurd (refused-not-42 d n e q)
     go (no-room t e x y) q = absurd (omega arith)
     go (entered t i e x y z) q = absurd (omega arith)
     go (again t i e x y) q = absurd (omega arith)

@@ -1,13 +1,14 @@
 -- The call on a datagram answers and leaves what the rules say of every reading. Each arm is one answer of reading. A Signal's body lies within the datagram, and its first word is the one that the rule asks for.
 -- Assumes nothing.
+use mathlib.Core.List.{List}
+use Rattle.pdu.proofs.Carried.{body-there}
 use mathlib.Core.Path.{_≡_, sym, ap, _∙_}
 use native.Mathlib.Omega.{arith}
 use Prim.Native.Nat.{ℕ, _+_, _-_}
 use denote.Ref.{now}
 use lib.ListN.{take, drop}
-use Rattle.station.proofs.ReaderLaws.{body-fits}
 use Rattle.pdu.specs.Words.{wordAt}
-use Rattle.pdu.specs.Reading.{bodySize}
+use Rattle.pdu.specs.Reading.{bodyOf}
 use Rattle.pdu.specs.declared.Reading.{Reading}
 use Rattle.station.specs.Hearing.{hearSignal, step, firstWord, heard}
 use borrow.Author.Needs.{needs}
@@ -44,7 +45,7 @@ part-at-start c = search needs
 part-at-end : tie.Need-part-at-end
 part-at-end c =
     let e = sym (c .before .before .before .read .ensures) ∙ c .before .reading3 .given .1 in
-    omega (arith, body-fits (now (c .before .before .before .before .before .args .datagram)) (c .before .reading3 .given .0 .0) (c .before .reading3 .given .0 .1 .0) e .fits)
+    omega (arith, body-there (now (c .before .before .before .before .before .args .datagram)) (c .before .reading3 .given .0 .0) (c .before .reading3 .given .0 .1 .0) e .0)
 
 at-requires : tie.Need-at-requires
 at-requires c κs = search needs
@@ -76,10 +77,9 @@ returns-3 c =
     let e = sym (c .before .before .before .before .before .before .read .ensures) ∙ c .before .before .before .before .reading3 .given .1 in
     let g = c .before .before .before .before .reading3 .given .0 .0 in
     let n = c .before .before .before .before .reading3 .given .0 .1 .0 in
-    let body : 52 + n - 52 ≡ bodySize d = omega (arith, body-fits d g n e .size) in
-    c .signal .ensures
-    ∙ ap (hearSignal s g) (c .before .at .ensures ∙ ap (λ (k : ℕ). wordAt (take k (drop 52 d)) 0) body)
-    ∙ sym (ap (λ (r : Reading). step s r (firstWord d)) e)
+    let size : 52 + n - 52 ≡ n = omega arith in
+    let body : take (52 + n - 52) (drop 52 d) ≡ bodyOf d = ap (λ (k : ℕ). take k (drop 52 d)) size ∙ sym (body-there d g n e .1) in
+    c .signal .ensures ∙ ap (hearSignal s g) (c .before .at .ensures ∙ ap (λ (b : List ℕ). wordAt b 0) body) ∙ sym (ap (λ (r : Reading). step s r (firstWord d)) e)
 
 pub hear-spec : {M : Type 1} → statement M
 hear-spec =
