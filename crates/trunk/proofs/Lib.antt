@@ -2,3 +2,14 @@
 pub mod KindLaws
 pub mod WriteLaws
 pub mod EndLaws
+pub mod RecordLaws
+pub mod RuleLaws
+pub mod CallLaws
+pub mod ExactlyWhen
+pub mod RowLaws
+pub mod LogLaws
+pub mod Invariant
+pub mod Progress
+pub mod Demand3
+pub mod Consequences
+pub mod Retry

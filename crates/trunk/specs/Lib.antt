@@ -3,5 +3,6 @@ pub mod Kinds
 pub mod Record
 pub mod Near
 pub mod Far
+pub mod Plain
 pub mod Line
 pub mod Demand

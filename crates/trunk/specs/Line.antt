@@ -4,11 +4,12 @@ use Prim.Native.Nat.{ℕ, max}
 use mathlib.Core.List.{List, [], _∷_, _++_, List·Memᴰ}
 use lib.ListN.{length, take}
 use Rattle.wire.specs.Bytes.{Bytes}
+use Rattle.pdu.specs.Reading.{reading}
 use Rattle.pdu.specs.Writing.{writtenForm}
 use Rattle.station.specs.Runs.{Call as StationCall, datagram, time}
 use Rattle.station.specs.declared.Station.{Station}
-use Rattle.trunk.specs.Kinds.{headSize}
-use Rattle.trunk.specs.Record.{numberIn}
+use Rattle.trunk.specs.Kinds.{headSize, kindOf}
+use Rattle.trunk.specs.Record.{recordOf, numberIn}
 use Rattle.trunk.specs.Near.{freshNear, offered, storeAfter, sent, sentOut, replied}
 use Rattle.trunk.specs.Far.{freshFar, arrived, replyAfter, outputAfter, ticked}
 use Rattle.trunk.specs.declared.Near.{Near}
@@ -133,9 +134,10 @@ putOutBy (clock-set t a) = []
 abbrev pub putOut : List Entry → List (List ℕ)
 putOut log = collect putOutBy log
 
--- the records that calls wrote: a send's, by the size answered, and an arrival's reply
+-- the records that calls wrote: an offer's, into its row of the store; a send's, by the size answered; and an arrival's reply
 abbrev pub writtenBy : Entry → List (List ℕ)
-writtenBy (offer-made d a) = []
+writtenBy (offer-made d (offerRefused n)) = []
+writtenBy (offer-made d (Taken i)) = recordOf (kindOf (reading d)) i (writtenForm d) ∷ []
 writtenBy (send-made i (sendRefused n) out) = []
 writtenBy (send-made i (Size n) out) = take n out ∷ []
 writtenBy (reply-heard r a) = []

@@ -1,0 +1,168 @@
+-- Demand 3, one theorem about every fair list of calls (`demand3`): from a fresh near end, any store, and a fresh far end with a station of any
+-- settings, whatever is lost, repeated or reordered. Each call keeps the invariant and says what it should; the list goes by induction.
+-- Assumes nothing.
+use Prim.Native.Nat.{ℕ, _+_, _≤_, _<_, max}
+use mathlib.Core.Path.{_≡_, refl, sym, ap, ap₂, subst, subst₂, _∙_}
+use mathlib.Core.List.{List, [], _∷_, _++_, List·Memᴰ, List·Memᴰ·not-nil}
+use lib.ListN.{length, getD, take, drop}
+use lib.Seq.{take-at}
+use native.Mathlib.Omega.{arith}
+use Rattle.wire.specs.Bytes.{Bytes}
+use Rattle.pdu.specs.Writing.{writtenForm}
+use Rattle.station.specs.Runs.{datagram, time}
+use Rattle.station.specs.Hearing.{heard}
+use Rattle.station.specs.Units.{made}
+use Rattle.station.specs.declared.Station.{Station}
+use Rattle.trunk.specs.Kinds.{headSize, recordSize}
+use Rattle.trunk.specs.Record.{replyOf, numberIn, carriedIn}
+use Rattle.trunk.specs.Near.{rowKind, offerRecord, offered, storeAfter, sent, sentOut, replied}
+use Rattle.trunk.specs.Far.{leastOutput, arrived, replyAfter, outputAfter, ticked}
+use Rattle.trunk.specs.Line.{Entry, offer-made, send-made, reply-heard, record-heard, clock-set, Call, offer, send, to-near, to-far, tick, Line, start, step, run, accepted, putOut, acknowledged, written, Allowed, Fair}
+use Rattle.trunk.specs.Demand.{pduAt, recordAt, count, Says, AllSay, Demand3}
+use Rattle.trunk.specs.declared.Near.{Near}
+use Rattle.trunk.specs.declared.Far.{Far}
+use Rattle.trunk.specs.declared.Offered.{Offered}
+use Rattle.trunk.specs.declared.Sent.{Sent}
+use Rattle.trunk.specs.declared.Replied.{Replied}
+use Rattle.trunk.specs.declared.Arrived.{Arrived}
+use Rattle.trunk.specs.declared.Ticked.{Ticked}
+use Rattle.trunk.proofs.RecordLaws.{reply-written}
+use Rattle.trunk.proofs.CallLaws.{OfferOutcome, offer-refused, offer-taken, offer-outcome, SendOutcome, send-refused, send-taken, send-outcome, ReplyOutcome, reply-refused, reply-taken, reply-outcome, ArrivalOutcome, arrival-refused, arrival-delivered, arrival-repeat, arrival-early, arrival-outcome}
+use Rattle.trunk.proofs.LogLaws.{Seen, seen, adds-nothing, accepting, adds-accepted, writing, adds-written, confirming, delivering, adds-delivered, timing, adds-timed}
+use Rattle.trunk.proofs.Progress.{replied-next, acknowledged-next}
+use Rattle.trunk.proofs.Invariant.{recordIn, Known, reply-record, Holds, writes, offer-keeps, held-size, held-written, send-keeps, larger, reply-keeps, known-bytes, arriving, delivery-keeps, clock-keeps}
+
+-- after a log: the invariant, and every entry says what it should
+pub record Stands (station : Station) (near : Near) (store : List ℕ) (far : Far) (log : List Entry) : Type 0 where
+  pub holds : Holds station near store far (seen log)
+  pub all-say : AllSay log
+
+module _ (station : Station) (near : Near) (store : List ℕ) (far : Far) (log : List Entry) (s : Stands station near store far log) where
+  -- an entry, with what it says
+  also : {near′ : Near} {store′ : List ℕ} {far′ : Far} {v : Seen} (e : Entry) → seen (e ∷ log) ≡ v → Holds station near′ store′ far′ v → Says e log → Stands station near′ store′ far′ (e ∷ log)
+  also {near′} {store′} {far′} e same holds says =
+      record { holds = subst (Holds station near′ store′ far′) (sym same) holds; all-say = (says, s .all-say) }
+
+  after-offer : (d : List ℕ) → Bytes d → {o : Offered} {store′ : List ℕ} → OfferOutcome near store d o store′ → Stands station (o .near) store′ far (offer-made d (o .answer) ∷ log)
+  after-offer d b (offer-refused n f) = also _ (adds-nothing (seen log)) (s .holds) tt
+  after-offer d b (offer-taken m) =
+      also _ (adds-accepted (seen log) (writtenForm d) (offerRecord near d)) (offer-keeps station near store far (seen log) (s .holds) d b m) (s .holds .near-accepted)
+
+  after-send : (i : ℕ) (out : List ℕ) {a : Sent} {out′ : List ℕ} → SendOutcome near store i out a out′ → Stands station near store far (send-made i a out′ ∷ log)
+  after-send i out (send-refused n f) = also _ (adds-nothing (seen log)) (s .holds) tt
+  after-send i out (send-taken m) =
+      let h = s .holds in
+      let held : acknowledged log ≤ i = omega (arith, m .1 .0 .0, h .near-acknowledged) in
+      let below : i < length (accepted log) = omega (arith, m .1 .0 .1, h .near-accepted) in
+      let record-is = held-written station near store far (seen log) h i held below (drop (recordSize (rowKind store i)) out) in
+      also _
+      (adds-written (seen log) _ ∙ ap (writing (seen log)) record-is)
+      (send-keeps station near store far (seen log) h i held below)
+      (below, record-is, held-size station near store far (seen log) h i held below)
+
+  after-reply : (r : List ℕ) → List·Memᴰ r (written log) → {o : Replied} → ReplyOutcome near r o → Stands station (o .near) store far (reply-heard r (o .answer) ∷ log)
+  after-reply r w (reply-refused n f) = also _ (adds-nothing (seen log)) (s .holds) tt
+  after-reply r w (reply-taken m) =
+      also _
+      (adds-nothing (confirming (seen log) (max (acknowledged log) (numberIn r))))
+      (reply-keeps station near store far (seen log) (s .holds) r (s .holds .known r w) m)
+      (larger station near store far (seen log) (s .holds) (numberIn r))
+
+  -- a reply with the count as it stands
+  replied-again : (reply : List ℕ) → take headSize (replyOf (far .count) ++ drop headSize reply) ≡ replyOf (far .count)
+  replied-again reply = reply-written (far .count) (drop headSize reply)
+
+  again : Holds station near store far (writing (seen log) (replyOf (far .count)))
+  again = writes station near store far (seen log) (s .holds) (replyOf (far .count)) (reply-record (far .count) (omega (arith, s .holds .far-count)) refl)
+
+  after-arrival : (r reply out : List ℕ) → List·Memᴰ r (written log) → {o : Arrived} {reply′ out′ : List ℕ} → ArrivalOutcome far r reply out o reply′ out′ → Stands station near store (o .far) (record-heard r (o .answer) reply′ out′ ∷ log)
+  after-arrival r reply out w (arrival-refused n f) = also _ (adds-nothing (seen log)) (s .holds) tt
+  after-arrival r reply out w (arrival-delivered m e) =
+      let this = arriving station near store far (seen log) (s .holds) r (s .holds .known r w) (m .1 .1 .0) in
+      let number : numberIn r ≡ count log = e ∙ s .holds .far-count in
+      let pdu = take-at (carriedIn r) (drop (length (carriedIn r)) out) (length (carriedIn r)) refl in
+      let answered = reply-written (far .count + 1) (drop headSize reply) in
+      also _
+      (adds-delivered (seen log) _ _ _ _ ∙ ap₂ (λ (p q : List ℕ). delivering (seen log) p q (datagram p) (heard (far .station) (carriedIn r) .answer)) pdu answered)
+      (delivery-keeps station near store far (seen log) (s .holds) r this e)
+      (ap length (this .pdu ∙ ap (pduAt log) number), answered ∙ ap (λ (n : ℕ). replyOf (n + 1)) (s .holds .far-count))
+  after-arrival r reply out w (arrival-repeat m l) =
+      also _ (adds-written (seen log) _ ∙ ap (writing (seen log)) (replied-again reply)) again (replied-again reply ∙ ap replyOf (s .holds .far-count))
+  after-arrival r reply out w (arrival-early m l) =
+      also _ (adds-written (seen log) _ ∙ ap (writing (seen log)) (replied-again reply)) again (replied-again reply ∙ ap replyOf (s .holds .far-count))
+
+  after-clock : (t : ℕ) → Stands station near store (ticked far t .far) (clock-set t (ticked far t .answer) ∷ log)
+  unfolding ticked
+  after-clock t = also _ (adds-timed (seen log) (time t) _) (clock-keeps station near store far (seen log) (s .holds) t) tt
+
+-- ---- a list of calls
+
+abbrev pub StandsAt : Station → Line → Type 0
+StandsAt station l = Stands station (l .near) (l .store) (l .far) (l .log)
+
+pub step-stands : (station : Station) (l : Line) (c : Call) → Allowed (l .log) c → StandsAt station l → StandsAt station (step l c)
+step-stands station l (offer d) b s = after-offer station (l .near) (l .store) (l .far) (l .log) s d b (offer-outcome (l .near) (l .store) d)
+step-stands station l (send i out) f s = after-send station (l .near) (l .store) (l .far) (l .log) s i out (send-outcome (l .near) (l .store) i out)
+step-stands station l (to-near r) w s = after-reply station (l .near) (l .store) (l .far) (l .log) s r w (reply-outcome (l .near) r)
+step-stands station l (to-far r reply out) w s =
+    after-arrival station (l .near) (l .store) (l .far) (l .log) s r reply out w
+    (arrival-outcome (l .far) r reply out (known-bytes station (l .near) (l .store) (l .far) (seen (l .log)) (s .holds) r (s .holds .known r w)))
+step-stands station l (tick t) f s = after-clock station (l .near) (l .store) (l .far) (l .log) s t
+
+pub run-stands : (station : Station) (l : Line) (calls : List Call) → Fair l calls → StandsAt station l → StandsAt station (run l calls)
+run-stands station l [] f s = s
+run-stands station l (c ∷ cs) f s = run-stands station (step l c) cs (f .1) (step-stands station l c (f .0) s)
+
+pub start-stands : (station : Station) (store : List ℕ) → StandsAt station (start station store)
+start-stands station store =
+    record {
+      holds =
+          record {
+            near-accepted = refl;
+            near-acknowledged = refl;
+            far-count = refl;
+            acknowledged-put-out = omega arith;
+            put-out-accepted = omega arith;
+            window = omega arith;
+            few = omega arith;
+            carried = λ i l. absurd (omega arith);
+            whole = λ l. absurd (omega arith);
+            stored = λ i held l. absurd (omega arith);
+            known = λ r w. absurd (List·Memᴰ·not-nil w);
+            in-order = refl;
+            station-stands = refl;
+            station-answered = refl;
+          };
+      all-say = tt;
+    }
+
+-- ---- demand 3
+
+pub stands-demand : (station : Station) (l : Line) → StandsAt station l → Demand3 station l
+stands-demand station l s =
+    let h = s .holds in
+    record {
+      in-order = h .in-order;
+      acknowledged-put-out = h .acknowledged-put-out;
+      put-out-accepted = h .put-out-accepted;
+      window = h .window;
+      near-accepted = h .near-accepted;
+      near-acknowledged = h .near-acknowledged;
+      far-count = h .far-count;
+      station-stands = h .station-stands;
+      station-answered = h .station-answered;
+      all-say = s .all-say;
+      next = λ more reply out fits room.
+          let k : ℕ = count (l .log) in
+          let answer = replied-next station (l .near) (l .store) (l .far) (seen (l .log)) h k reply out more (omega arith) fits room in
+          ap (λ (r : List ℕ). replied (l .near) r .near .acknowledged) (answer .reply-is)
+          ∙ acknowledged-next station (l .near) (l .store) (l .far) (seen (l .log)) h (answer .number) (omega (arith, h .acknowledged-put-out, answer .above)) (answer .accepted)
+          ∙ answer .at-count refl;
+    }
+
+-- for every fair list of calls, from a fresh near end, any store, and a fresh far end, its station of any settings
+pub demand3 : (level net : ℕ) (store : List ℕ) (calls : List Call) → Fair (start (made level net .station) store) calls → Demand3 (made level net .station) (run (start (made level net .station) store) calls)
+demand3 level net store calls fair =
+    let station : Station = made level net .station in
+    stands-demand station (run (start station store) calls)
+    (run-stands station (start station store) calls fair (start-stands station store))

@@ -1,0 +1,211 @@
+-- Each answer of each call, exactly when it is given, in plain numbers: a refusal's number is that of the first plain rule that does not hold,
+-- and every other answer is given exactly where all rules hold, with the values that document 01 names. By the outcome of each call.
+-- Assumes nothing.
+use Prim.Native.Nat.{ℕ, _<_, max}
+use mathlib.Core.Path.{_≡_, refl, sym, ap, ap₂, subst, _∙_}
+use mathlib.Core.Logic.{_↔_, _≢_}
+use mathlib.Core.List.{List}
+use lib.ListN.{length}
+use native.Mathlib.Omega.{arith}
+use Rattle.wire.specs.Bytes.{num, Bytes}
+use Rattle.wire.specs.First.{Refusal}
+use Rattle.pdu.specs.Plain.{Rule, Met, FirstBroken}
+use Rattle.pdu.proofs.RuleLaws.{Verdict}
+use Rattle.station.specs.Hearing.{heard}
+use Rattle.trunk.specs.Kinds.{recordSize}
+use Rattle.trunk.specs.Record.{numberIn, carriedIn}
+use Rattle.trunk.specs.Near.{rowStart, rowKind, acknowledgedAfter, numberOfOffer, numberOfSent, numberOfReply, offered, sent, replied}
+use Rattle.trunk.specs.Far.{arrived, numberOfArrival}
+use Rattle.trunk.specs.Plain.{plainOffer, plainSend, plainReply, plainArrival}
+use Rattle.trunk.specs.declared.Near.{Near}
+use Rattle.trunk.specs.declared.Far.{Far}
+use Rattle.trunk.specs.declared.Offer.{Offer}
+use Rattle.trunk.specs.declared.Offer.the-variants.{Refused as offerRefused, Taken}
+use Rattle.trunk.specs.declared.Offered.{Offered}
+use Rattle.trunk.specs.declared.Sent.{Sent}
+use Rattle.trunk.specs.declared.Sent.the-variants.{Refused as sendRefused, Size}
+use Rattle.trunk.specs.declared.Reply.{Reply}
+use Rattle.trunk.specs.declared.Reply.the-variants.{Refused as replyRefused, Acknowledged}
+use Rattle.trunk.specs.declared.Replied.{Replied}
+use Rattle.trunk.specs.declared.Arrival.{Arrival}
+use Rattle.trunk.specs.declared.Arrival.the-variants.{Refused as arrivalRefused, Delivered, Repeat, Early}
+use Rattle.trunk.specs.declared.Arrived.{Arrived}
+use Rattle.trunk.proofs.RuleLaws.{offer-verdict, send-verdict, reply-verdict, arrival-verdict}
+use Rattle.trunk.proofs.CallLaws.{after-is-max, OfferOutcome, offer-refused, offer-taken, offer-outcome, SendOutcome, send-refused, send-taken, send-outcome, ReplyOutcome, reply-refused, reply-taken, reply-outcome, ArrivalOutcome, arrival-refused, arrival-delivered, arrival-repeat, arrival-early, arrival-outcome}
+
+-- two statements that never hold
+neither-holds : {A B : Type 0} → ¬ A → ¬ B → A ↔ B
+neither-holds a b = (λ x. absurd (a x), λ y. absurd (b y))
+
+-- where n is the first broken rule's number, no other is
+refused-as : {X : Type 0} (refuse : ℕ → X) (number : X → ℕ) → ((n : ℕ) → number (refuse n) ≡ n) → {rs : List Refusal} (ps : List Rule) → Verdict rs ps → (m : ℕ) → FirstBroken m ps → (n : ℕ) → (refuse m ≡ refuse n) ↔ FirstBroken n ps
+refused-as refuse number back ps v m f n = (
+  (λ e. subst (λ (k : ℕ). FirstBroken k ps) (sym (back m) ∙ ap number e ∙ back n) f),
+  (λ g. ap refuse (sym (v .some m .1 f .0) ∙ v .some n .1 g .0)),
+)
+
+-- all rules hold, and one is the first that does not
+clash : {rs : List Refusal} (ps : List Rule) → Verdict rs ps → (n : ℕ) → FirstBroken n ps → ¬ Met ps
+clash ps v n f m = let x = v .some n .1 f in x .1 (sym (x .0) ∙ v .none .1 m)
+
+-- ---- offering
+
+pub record OfferExactly (near : Near) (store d : List ℕ) (a : Offer) : Type 0 where
+  pub refused : (n : ℕ) → (a ≡ offerRefused n) ↔ FirstBroken n (plainOffer near store d)
+  pub taken : (i : ℕ) → (a ≡ Taken i) ↔ (Met (plainOffer near store d) × (i ≡ near .accepted))
+
+offer-no-taken : (n i : ℕ) → offerRefused n ≢ Taken i
+offer-no-taken n i e = let z : _≡_ {A = ℕ} 0 1 = cc in omega arith
+
+same-taken : (i j : ℕ) → Taken j ≡ Taken i → i ≡ j
+same-taken i j e = cc
+
+offer-exactly : (near : Near) (store d : List ℕ) {o : Offered} {s : List ℕ} → OfferOutcome near store d o s → OfferExactly near store d (o .answer)
+offer-exactly near store d (offer-refused m f) =
+    let v = offer-verdict near store d in
+    record {
+      refused = refused-as offerRefused numberOfOffer (λ n. refl) (plainOffer near store d) v m f;
+      taken = λ i. neither-holds (offer-no-taken m i) (λ x. clash (plainOffer near store d) v m f (x .0));
+    }
+offer-exactly near store d (offer-taken met) =
+    let v = offer-verdict near store d in
+    record {
+      refused = λ n. neither-holds (λ e. offer-no-taken n (near .accepted) (sym e)) (λ f. clash (plainOffer near store d) v n f met);
+      taken = λ i. (λ e. (met, same-taken i (near .accepted) e), λ x. ap Taken (sym (x .1)));
+    }
+
+-- an offer's answer, exactly when
+pub offer-exactly-when : (near : Near) (store d : List ℕ) → OfferExactly near store d (offered near store d .answer)
+offer-exactly-when near store d = offer-exactly near store d (offer-outcome near store d)
+
+-- ---- sending
+
+pub record SendExactly (near : Near) (store : List ℕ) (i room : ℕ) (a : Sent) : Type 0 where
+  pub refused : (n : ℕ) → (a ≡ sendRefused n) ↔ FirstBroken n (plainSend near store i room)
+  pub size : (n : ℕ) → (a ≡ Size n) ↔ (Met (plainSend near store i room) × (n ≡ recordSize (num 1 (rowStart i) store)))
+
+send-no-size : (n m : ℕ) → sendRefused n ≢ Size m
+send-no-size n m e = let z : _≡_ {A = ℕ} 0 1 = cc in omega arith
+
+same-size : (i j : ℕ) → Size j ≡ Size i → i ≡ j
+same-size i j e = cc
+
+send-exactly : (near : Near) (store : List ℕ) (i : ℕ) (out : List ℕ) {a : Sent} {s : List ℕ} → SendOutcome near store i out a s → SendExactly near store i (length out) a
+send-exactly near store i out (send-refused m f) =
+    let v = send-verdict near store i (length out) in
+    let rules = plainSend near store i (length out) in
+    record {
+      refused = refused-as sendRefused numberOfSent (λ n. refl) rules v m f;
+      size = λ n. neither-holds (send-no-size m n) (λ x. clash rules v m f (x .0));
+    }
+send-exactly near store i out (send-taken met) =
+    let v = send-verdict near store i (length out) in
+    let rules = plainSend near store i (length out) in
+    record {
+      refused = λ n. neither-holds (λ e. send-no-size n (recordSize (rowKind store i)) (sym e)) (λ f. clash rules v n f met);
+      size = λ n. (λ e. (met, same-size n (recordSize (rowKind store i)) e), λ x. ap Size (sym (x .1)));
+    }
+
+-- a send's answer, exactly when
+pub send-exactly-when : (near : Near) (store : List ℕ) (i : ℕ) (out : List ℕ) → SendExactly near store i (length out) (sent near store i (length out))
+send-exactly-when near store i out = send-exactly near store i out (send-outcome near store i out)
+
+-- ---- taking a reply
+
+pub record ReplyExactly (near : Near) (r : List ℕ) (a : Reply) : Type 0 where
+  pub refused : (n : ℕ) → (a ≡ replyRefused n) ↔ FirstBroken n (plainReply near r)
+  pub acknowledged : (n : ℕ) → (a ≡ Acknowledged n) ↔ (Met (plainReply near r) × (n ≡ max (near .acknowledged) (num 4 1 r)))
+
+reply-no-count : (n m : ℕ) → replyRefused n ≢ Acknowledged m
+reply-no-count n m e = let z : _≡_ {A = ℕ} 0 1 = cc in omega arith
+
+same-count : (i j : ℕ) → Acknowledged j ≡ Acknowledged i → i ≡ j
+same-count i j e = cc
+
+reply-exactly : (near : Near) (r : List ℕ) {o : Replied} → ReplyOutcome near r o → ReplyExactly near r (o .answer)
+reply-exactly near r (reply-refused m f) =
+    let v = reply-verdict near r in
+    record {
+      refused = refused-as replyRefused numberOfReply (λ n. refl) (plainReply near r) v m f;
+      acknowledged = λ n. neither-holds (reply-no-count m n) (λ x. clash (plainReply near r) v m f (x .0));
+    }
+reply-exactly near r (reply-taken met) =
+    let v = reply-verdict near r in
+    let count : ℕ = acknowledgedAfter (near .acknowledged) (numberIn r) in
+    let larger = after-is-max (near .acknowledged) (numberIn r) in
+    record {
+      refused = λ n. neither-holds (λ e. reply-no-count n count (sym e)) (λ f. clash (plainReply near r) v n f met);
+      acknowledged = λ n. (λ e. (met, same-count n count e ∙ larger), λ x. ap Acknowledged (larger ∙ sym (x .1)));
+    }
+
+-- a reply's answer, exactly when
+pub reply-exactly-when : (near : Near) (r : List ℕ) → ReplyExactly near r (replied near r .answer)
+reply-exactly-when near r = reply-exactly near r (reply-outcome near r)
+
+-- ---- a record at the far end
+
+pub record ArriveExactly (far : Far) (r : List ℕ) (replyRoom room : ℕ) (a : Arrival) : Type 0 where
+  pub refused : (n : ℕ) → (a ≡ arrivalRefused n) ↔ FirstBroken n (plainArrival r replyRoom room)
+  pub delivered : (size answer : ℕ) → (a ≡ Delivered size answer) ↔ (Met (plainArrival r replyRoom room) × (num 4 1 r ≡ far .count) × (size ≡ length (carriedIn r)) × (answer ≡ heard (far .station) (carriedIn r) .answer))
+  pub repeat : (a ≡ Repeat) ↔ (Met (plainArrival r replyRoom room) × (num 4 1 r < far .count))
+  pub early : (a ≡ Early) ↔ (Met (plainArrival r replyRoom room) × (far .count < num 4 1 r))
+
+-- answers of two kinds differ
+which : Arrival → ℕ
+which (arrivalRefused n) = 0
+which (Delivered size answer) = 1
+which Repeat = 2
+which Early = 3
+
+differ : (a b : Arrival) → which a ≢ which b → a ≢ b
+differ a b h e = h (ap which e)
+
+same-delivered : (s t m n : ℕ) → Delivered t n ≡ Delivered s m → (s ≡ t) × (m ≡ n)
+same-delivered s t m n e = (cc, cc)
+
+arrive-exactly : (far : Far) (r reply out : List ℕ) → Bytes r → {o : Arrived} {s t : List ℕ} → ArrivalOutcome far r reply out o s t → ArriveExactly far r (length reply) (length out) (o .answer)
+unfolding which
+arrive-exactly far r reply out b (arrival-refused m f) =
+    let v = arrival-verdict r b (length reply) (length out) in
+    let rules = plainArrival r (length reply) (length out) in
+    record {
+      refused = refused-as arrivalRefused numberOfArrival (λ n. refl) rules v m f;
+      delivered = λ size answer. neither-holds (differ (arrivalRefused m) (Delivered size answer) (λ t. omega arith)) (λ x. clash rules v m f (x .0));
+      repeat = neither-holds (differ (arrivalRefused m) Repeat (λ t. omega arith)) (λ x. clash rules v m f (x .0));
+      early = neither-holds (differ (arrivalRefused m) Early (λ t. omega arith)) (λ x. clash rules v m f (x .0));
+    }
+arrive-exactly far r reply out b (arrival-delivered met same) =
+    let v = arrival-verdict r b (length reply) (length out) in
+    let rules = plainArrival r (length reply) (length out) in
+    let this : Arrival = Delivered (length (carriedIn r)) (heard (far .station) (carriedIn r) .answer) in
+    record {
+      refused = λ n. neither-holds (differ this (arrivalRefused n) (λ t. omega arith)) (λ f. clash rules v n f met);
+      delivered = λ size answer. (
+        (λ e. let x = same-delivered size (length (carriedIn r)) answer (heard (far .station) (carriedIn r) .answer) e in (met, same, x .0, x .1)),
+        (λ x. ap₂ Delivered (sym (x .2)) (sym (x .3))),
+      );
+      repeat = neither-holds (differ this Repeat (λ t. omega arith)) (λ x. omega (arith, x .1));
+      early = neither-holds (differ this Early (λ t. omega arith)) (λ x. omega (arith, x .1));
+    }
+arrive-exactly far r reply out b (arrival-repeat met below) =
+    let v = arrival-verdict r b (length reply) (length out) in
+    let rules = plainArrival r (length reply) (length out) in
+    record {
+      refused = λ n. neither-holds (differ Repeat (arrivalRefused n) (λ t. omega arith)) (λ f. clash rules v n f met);
+      delivered = λ size answer. neither-holds (differ Repeat (Delivered size answer) (λ t. omega arith)) (λ x. omega (arith, x .1));
+      repeat = (λ e. (met, below), λ x. refl);
+      early = neither-holds (differ Repeat Early (λ t. omega arith)) (λ x. omega (arith, x .1));
+    }
+arrive-exactly far r reply out b (arrival-early met above) =
+    let v = arrival-verdict r b (length reply) (length out) in
+    let rules = plainArrival r (length reply) (length out) in
+    record {
+      refused = λ n. neither-holds (differ Early (arrivalRefused n) (λ t. omega arith)) (λ f. clash rules v n f met);
+      delivered = λ size answer. neither-holds (differ Early (Delivered size answer) (λ t. omega arith)) (λ x. omega (arith, x .1));
+      repeat = neither-holds (differ Early Repeat (λ t. omega arith)) (λ x. omega (arith, x .1));
+      early = (λ e. (met, above), λ x. refl);
+    }
+
+-- an arrival's answer, exactly when, for every list of bytes
+pub arrive-exactly-when : (far : Far) (r reply out : List ℕ) → Bytes r → ArriveExactly far r (length reply) (length out) (arrived far r (length reply) (length out) .answer)
+arrive-exactly-when far r reply out b = arrive-exactly far r reply out b (arrival-outcome far r reply out b)

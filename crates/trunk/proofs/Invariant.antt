@@ -1,0 +1,341 @@
+-- What holds between the two ends, the store and what a log says, after every fair list of calls (`Holds`); and that each call that is taken
+-- keeps it. The near end's rows hold the records of what is not acknowledged, and what a call wrote is such a record or a reply.
+-- Assumes nothing.
+use Prim.Native.Nat.{ℕ, _+_, _≤_, _<_, max}
+use mathlib.Core.Path.{_≡_, refl, sym, ap, ap₂, subst, subst₂, _∙_}
+use mathlib.Core.Logic.{_≢_, _⊎_, inl, inr}
+use mathlib.Core.Bool.{Bool, true, false, cond}
+use mathlib.Core.List.{List, [], _∷_, _++_, List·Memᴰ, List·Memᴰ·append-cases, List·Memᴰ·eq-of-singleton}
+use lib.ListN.{length, getD, take, drop, length-append, List·getD-append}
+use lib.Seq.{length-sets, take-at, take-suc, take-append-le, getD-append-seam}
+use lib.Dec.{ltb}
+use borrow.Author.Tests.{ltb-true, ltb-false, eqb-false}
+use native.Mathlib.Nat.{max-eq-left, max-eq-right}
+use native.Mathlib.Numerals.{add-one}
+use native.Mathlib.Omega.{arith}
+use Rattle.wire.specs.Bytes.{Bytes, splice}
+use Rattle.pdu.specs.Plain.{Met}
+use Rattle.pdu.specs.Reading.{reading}
+use Rattle.pdu.specs.Writing.{writtenForm}
+use Rattle.pdu.specs.declared.Reading.{Reading}
+use Rattle.station.specs.Runs.{Call as StationCall, datagram, time, called, after, answers}
+use Rattle.station.specs.Hearing.{heard}
+use Rattle.station.specs.Clock.{clocked}
+use Rattle.station.specs.declared.Station.{Station}
+use Rattle.trunk.specs.Kinds.{headSize, recordSize, replyKind, noKind, kindOf}
+use Rattle.trunk.specs.Record.{recordOf, replyOf, kindIn, numberIn, carriedIn, lastNumber}
+use Rattle.trunk.specs.Near.{rows, rowSize, storeSize, rowStart, rowKind, rowRecord, offerRecord, acknowledgedAfter}
+use Rattle.trunk.specs.Far.{delivered}
+use Rattle.trunk.specs.Plain.{plainOffer, plainSend, plainReply, plainArrival}
+use Rattle.trunk.specs.declared.Near.{Near}
+use Rattle.trunk.specs.declared.Far.{Far}
+use Rattle.trunk.proofs.RecordLaws.{Carried, carried-kind, carried-form, carried-in, record-bytes, recordFor, pdu-kind, pdu-number, pdu-length, SoundReply, reply-sound, length-reply, kind-in}
+use Rattle.trunk.proofs.RuleLaws.{type-says}
+use Rattle.trunk.proofs.CallLaws.{after-is-max}
+use Rattle.trunk.proofs.RowLaws.{RowHolds, row-written, row-kept, rows-differ, row-kind}
+use Rattle.trunk.proofs.LogLaws.{Seen, accepting, writing, confirming, delivering, timing, after-more, answers-more}
+
+-- record i of the PDUs accepted
+abbrev pub recordIn : List (List ℕ) → ℕ → List ℕ
+recordIn pdus i = recordFor i (getD pdus i [])
+
+-- what a call may have written: the record of an accepted PDU, or a reply with a number up to k
+pub data Known (pdus : List (List ℕ)) (k : ℕ) (r : List ℕ) : Type 0 where
+  pdu-record : (i : ℕ) → i < length pdus → r ≡ recordIn pdus i → Known pdus k r
+  reply-record : (j : ℕ) → j ≤ k → r ≡ replyOf j → Known pdus k r
+
+pub record Holds (station : Station) (near : Near) (store : List ℕ) (far : Far) (v : Seen) : Type 0 where
+  -- the ends' own counts
+  pub near-accepted : near .accepted ≡ length (v .pdus)
+  pub near-acknowledged : near .acknowledged ≡ v .confirmed
+  pub far-count : far .count ≡ length (v .out)
+  -- their order
+  pub acknowledged-put-out : v .confirmed ≤ length (v .out)
+  pub put-out-accepted : length (v .out) ≤ length (v .pdus)
+  pub window : length (v .pdus) ≤ v .confirmed + rows
+  pub few : length (v .pdus) ≤ lastNumber
+  -- what was accepted is carried
+  pub carried : (i : ℕ) → i < length (v .pdus) → Carried (getD (v .pdus) i [])
+  -- nothing is accepted without a whole store
+  pub whole : 0 < length (v .pdus) → length store ≡ storeSize
+  -- the row of each number that is held starts with its record
+  pub stored : (i : ℕ) → v .confirmed ≤ i → i < length (v .pdus) → RowHolds store i (recordIn (v .pdus) i)
+  -- what was written
+  pub known : (r : List ℕ) → List·Memᴰ r (v .records) → Known (v .pdus) (length (v .out)) r
+  -- what was put out
+  pub in-order : v .out ≡ take (length (v .out)) (v .pdus)
+  -- the far station
+  pub station-stands : far .station ≡ after station (v .calls)
+  pub station-answered : v .said ≡ answers station (v .calls)
+
+-- ---- one more PDU
+
+module _ (pdus : List (List ℕ)) (p : List ℕ) where
+  old-pdu : (i : ℕ) → i < length pdus → getD (pdus ++ (p ∷ [])) i [] ≡ getD pdus i []
+  old-pdu i l = List·getD-append pdus (p ∷ []) [] i l
+
+  new-pdu : getD (pdus ++ (p ∷ [])) (length pdus) [] ≡ p
+  new-pdu = getD-append-seam pdus p [] []
+
+  longer : length (pdus ++ (p ∷ [])) ≡ length pdus + 1
+  longer = length-append pdus (p ∷ [])
+
+  -- what holds of each PDU, and of the new one
+  each-more : (P : ℕ → Type 0) → ((i : ℕ) → i < length pdus → P i) → P (length pdus) → (i : ℕ) → i < length (pdus ++ (p ∷ [])) → P i
+  each-more P old new i l = by (ltb i (length pdus)) refl
+    where
+      by : (t : Bool) → ltb i (length pdus) ≡ t → P i
+      by true e = old i (ltb-true _ _ e)
+      by false e =
+          let least : length pdus ≤ i = ltb-false _ _ e in
+          subst P (omega (arith, longer)) new
+
+-- ---- what was written
+
+known-more : (pdus : List (List ℕ)) (k : ℕ) (p r : List ℕ) → Known pdus k r → Known (pdus ++ (p ∷ [])) k r
+known-more pdus k p r (pdu-record i h e) = pdu-record i (omega (arith, longer pdus p)) (e ∙ ap (recordFor i) (sym (old-pdu pdus p i h)))
+known-more pdus k p r (reply-record j h e) = reply-record j h e
+
+known-later : (pdus : List (List ℕ)) (k n : ℕ) (r : List ℕ) → k ≤ n → Known pdus k r → Known pdus n r
+known-later pdus k n r l (pdu-record i h e) = pdu-record i h e
+known-later pdus k n r l (reply-record j h e) = reply-record j (omega arith) e
+
+-- one more record written
+known-also : (pdus rs : List (List ℕ)) (k : ℕ) (r : List ℕ) → ((x : List ℕ) → List·Memᴰ x rs → Known pdus k x) → Known pdus k r → (x : List ℕ) → List·Memᴰ x (rs ++ (r ∷ [])) → Known pdus k x
+known-also pdus rs k r old new x m =
+    elim (List·Memᴰ·append-cases rs m) [ inl a ↦ old x a | inr b ↦ subst (Known pdus k) (sym (List·Memᴰ·eq-of-singleton b)) new ]
+
+module _ (station : Station) (near : Near) (store : List ℕ) (far : Far) (v : Seen) (h : Holds station near store far v) where
+  pub small : (i : ℕ) → i < length (v .pdus) → i < lastNumber
+  small i l = omega (arith, h .few)
+
+  -- the length of an accepted PDU's record
+  record-length : (i : ℕ) → i < length (v .pdus) → length (recordIn (v .pdus) i) ≡ recordSize (kindOf (reading (getD (v .pdus) i [])))
+  record-length i l = pdu-length i (getD (v .pdus) i []) (h .carried i l) (small i l)
+
+  pub record-fits : (i : ℕ) → i < length (v .pdus) → length (recordIn (v .pdus) i) ≤ rowSize
+  record-fits i l = rw (record-length i l) (carried-kind (getD (v .pdus) i []) (h .carried i l .kind) .kind .fits-row)
+
+  -- one more record written
+  pub writes : (r : List ℕ) → Known (v .pdus) (length (v .out)) r → Holds station near store far (writing v r)
+  writes r new =
+      record {
+        near-accepted = h .near-accepted;
+        near-acknowledged = h .near-acknowledged;
+        far-count = h .far-count;
+        acknowledged-put-out = h .acknowledged-put-out;
+        put-out-accepted = h .put-out-accepted;
+        window = h .window;
+        few = h .few;
+        carried = h .carried;
+        whole = h .whole;
+        stored = h .stored;
+        known = known-also (v .pdus) (v .records) (length (v .out)) r (h .known) new;
+        in-order = h .in-order;
+        station-stands = h .station-stands;
+        station-answered = h .station-answered;
+      }
+
+  -- ---- an offer
+
+  module _ (d : List ℕ) (b : Bytes d) (m : Met (plainOffer near store d)) where
+    form : Carried (writtenForm d) × (reading (writtenForm d) ≡ reading d)
+    form = carried-form d b (eqb-false _ _ (type-says d (m .1 .0) .1 (m .1 .1 .0)))
+
+    room : length (v .pdus) < lastNumber
+    room = let other = m .1 .1 .1 .0 in omega (arith, h .few, h .near-accepted)
+
+    -- what it writes is the new PDU's record
+    new-record : offerRecord near d ≡ recordFor (length (v .pdus)) (writtenForm d)
+    new-record = ap₂ (λ (r : Reading) (n : ℕ). recordOf (kindOf r) n (writtenForm d)) (sym (form .1)) (h .near-accepted)
+
+    new-fits : length (offerRecord near d) ≤ rowSize
+    new-fits =
+        rw (new-record, pdu-length (length (v .pdus)) (writtenForm d) (form .0) room)
+        (carried-kind (writtenForm d) (form .0 .kind) .kind .fits-row)
+
+    stored-record : offerRecord near d ≡ recordIn (v .pdus ++ (writtenForm d ∷ [])) (length (v .pdus))
+    stored-record = new-record ∙ ap (recordFor (length (v .pdus))) (sym (new-pdu (v .pdus) (writtenForm d)))
+
+    offer-carried : (i : ℕ) → i < length (v .pdus ++ (writtenForm d ∷ [])) → Carried (getD (v .pdus ++ (writtenForm d ∷ [])) i [])
+    offer-carried =
+        each-more (v .pdus) (writtenForm d) (λ (i : ℕ). Carried (getD (v .pdus ++ (writtenForm d ∷ [])) i []))
+        (λ i l. subst Carried (sym (old-pdu (v .pdus) (writtenForm d) i l)) (h .carried i l))
+        (subst Carried (sym (new-pdu (v .pdus) (writtenForm d))) (form .0))
+
+    offer-stored : (i : ℕ) → i < length (v .pdus ++ (writtenForm d ∷ [])) → v .confirmed ≤ i → RowHolds (splice (rowStart (near .accepted)) (offerRecord near d) store) i (recordIn (v .pdus ++ (writtenForm d ∷ [])) i)
+    offer-stored = each-more (v .pdus) (writtenForm d) (λ (i : ℕ). v .confirmed ≤ i → Row i (recordIn (v .pdus ++ (writtenForm d ∷ [])) i)) old new
+      where
+        Row : ℕ → List ℕ → Type 0
+        Row i r = RowHolds (splice (rowStart (near .accepted)) (offerRecord near d) store) i r
+
+        old : (i : ℕ) → i < length (v .pdus) → v .confirmed ≤ i → Row i (recordIn (v .pdus ++ (writtenForm d ∷ [])) i)
+        old i l held =
+            let apart = rows-differ i (near .accepted) (omega (arith, h .near-accepted)) (omega (arith, h .near-acknowledged, m .1 .1 .1 .1 .0)) in
+            subst (λ (q : List ℕ). Row i (recordFor i q)) (sym (old-pdu (v .pdus) (writtenForm d) i l))
+            (row-kept store i (near .accepted) (offerRecord near d) (recordIn (v .pdus) i) (m .0) new-fits (record-fits i l) apart (h .stored i held l))
+
+        new : v .confirmed ≤ length (v .pdus) → Row (length (v .pdus)) (recordIn (v .pdus ++ (writtenForm d ∷ [])) (length (v .pdus)))
+        new held =
+            subst₂ Row (h .near-accepted) stored-record
+            (row-written store (near .accepted) (offerRecord near d) (m .0) new-fits)
+
+    pub offer-keeps : Holds station (record { accepted = near .accepted + 1; acknowledged = near .acknowledged }) (splice (rowStart (near .accepted)) (offerRecord near d) store) far (accepting v (writtenForm d) (offerRecord near d))
+    offer-keeps =
+        let one-more = longer (v .pdus) (writtenForm d) in
+        record {
+          near-accepted = ap (λ (n : ℕ). n + 1) (h .near-accepted) ∙ sym one-more;
+          near-acknowledged = h .near-acknowledged;
+          far-count = h .far-count;
+          acknowledged-put-out = h .acknowledged-put-out;
+          put-out-accepted = omega (arith, one-more, h .put-out-accepted);
+          window = omega (arith, one-more, h .near-accepted, h .near-acknowledged, m .1 .1 .1 .1 .0);
+          few = omega (arith, one-more, room);
+          carried = offer-carried;
+          whole = λ l. length-sets store (rowStart (near .accepted)) (offerRecord near d) ∙ m .0;
+          stored = λ i held l. offer-stored i l held;
+          known =
+              known-also (v .pdus ++ (writtenForm d ∷ [])) (v .records) (length (v .out)) (offerRecord near d)
+              (λ r w. known-more (v .pdus) (length (v .out)) (writtenForm d) r (h .known r w))
+              (pdu-record (length (v .pdus)) (omega (arith, one-more)) stored-record);
+          in-order = h .in-order ∙ sym (take-append-le (length (v .out)) (v .pdus) (writtenForm d ∷ []) (h .put-out-accepted));
+          station-stands = h .station-stands;
+          station-answered = h .station-answered;
+        }
+
+  -- ---- a send
+
+  module _ (i : ℕ) (held : v .confirmed ≤ i) (l : i < length (v .pdus)) where
+    -- the row's kind is the PDU's, so what is sent is the record
+    pub held-kind : rowKind store i ≡ kindOf (reading (getD (v .pdus) i []))
+    held-kind =
+        row-kind store i (recordIn (v .pdus) i) (omega (arith, record-length i l)) (h .stored i held l)
+        ∙ pdu-kind i (getD (v .pdus) i []) (h .carried i l) (small i l)
+
+    pub held-size : recordSize (rowKind store i) ≡ length (recordIn (v .pdus) i)
+    held-size = ap recordSize held-kind ∙ sym (record-length i l)
+
+    pub held-written : (rest : List ℕ) → take (recordSize (rowKind store i)) (rowRecord store i ++ rest) ≡ recordIn (v .pdus) i
+    held-written rest =
+        ap₂ (λ (n : ℕ) (r : List ℕ). take n (r ++ rest)) held-size
+        (ap (λ (n : ℕ). take n (drop (rowStart i) store)) held-size ∙ h .stored i held l)
+        ∙ take-at (recordIn (v .pdus) i) rest (length (recordIn (v .pdus) i)) refl
+
+    pub send-keeps : Holds station near store far (writing v (recordIn (v .pdus) i))
+    send-keeps = writes (recordIn (v .pdus) i) (pdu-record i l refl)
+
+  -- ---- a reply
+
+  -- the acknowledged count after a reply is the larger of the two
+  pub larger : (n : ℕ) → acknowledgedAfter (near .acknowledged) n ≡ max (v .confirmed) n
+  larger n = after-is-max (near .acknowledged) n ∙ ap (λ (a : ℕ). max a n) (h .near-acknowledged)
+
+  -- a record of a PDU is no reply, and a reply has the number that it was written with
+  reply-number : (r : List ℕ) → Known (v .pdus) (length (v .out)) r → kindIn r ≡ replyKind → numberIn r ≤ length (v .out)
+  reply-number r (pdu-record i l e) is =
+      let c = h .carried i l in
+      absurd (carried-kind (getD (v .pdus) i []) (c .kind) .kind .no-reply (sym (pdu-kind i (getD (v .pdus) i []) c (small i l)) ∙ ap kindIn (sym e) ∙ is))
+  reply-number r (reply-record j l e) is =
+      rw (e, reply-sound j (omega (arith, h .put-out-accepted, h .few)) .number-is) l
+
+  pub reply-keeps : (r : List ℕ) → Known (v .pdus) (length (v .out)) r → Met (plainReply near r) → Holds station (record { accepted = near .accepted; acknowledged = acknowledgedAfter (near .acknowledged) (numberIn r) }) store far (confirming v (max (v .confirmed) (numberIn r)))
+  reply-keeps r w m =
+      let at-most = reply-number r w (m .1 .1 .0) in
+      record {
+        near-accepted = h .near-accepted;
+        near-acknowledged = larger (numberIn r);
+        far-count = h .far-count;
+        acknowledged-put-out = omega (arith, at-most, h .acknowledged-put-out);
+        put-out-accepted = h .put-out-accepted;
+        window = omega (arith, h .window);
+        few = h .few;
+        carried = h .carried;
+        whole = h .whole;
+        stored = λ i held l. h .stored i (omega (arith, held)) l;
+        known = h .known;
+        in-order = h .in-order;
+        station-stands = h .station-stands;
+        station-answered = h .station-answered;
+      }
+
+  -- ---- a record at the far end
+
+  pub known-bytes : (r : List ℕ) → Known (v .pdus) (length (v .out)) r → Bytes r
+  known-bytes r (pdu-record i l e) = subst Bytes (sym e) (record-bytes _ i (getD (v .pdus) i []) (h .carried i l .bytes))
+  known-bytes r (reply-record j l e) = subst Bytes (sym e) (record-bytes replyKind j [] (λ i. omega arith))
+
+  -- what is written and is no reply is the record of a PDU, with that PDU's number
+  pub record Arriving (r : List ℕ) : Type 0 where
+    pub accepted : numberIn r < length (v .pdus)
+    pub pdu : carriedIn r ≡ getD (v .pdus) (numberIn r) []
+
+  pub arriving : (r : List ℕ) → Known (v .pdus) (length (v .out)) r → kindIn r ≢ replyKind → Arriving r
+  arriving r (pdu-record i l e) other =
+      let p : List ℕ = getD (v .pdus) i [] in
+      let number : numberIn r ≡ i = ap numberIn e ∙ pdu-number i p (h .carried i l) (small i l) in
+      record {
+        accepted = omega (arith, number);
+        pdu = ap carriedIn e ∙ carried-in (kindOf (reading p)) i p ∙ ap (λ (n : ℕ). getD (v .pdus) n []) (sym number);
+      }
+  arriving r (reply-record j l e) other =
+      absurd (other (ap kindIn e ∙ kind-in replyKind j [] (omega arith) (omega (arith, h .put-out-accepted, h .few))))
+
+  -- one more call on the far station
+  station-next : (c : StationCall) → called (far .station) c .station ≡ after station (v .calls ++ (c ∷ []))
+  station-next c = ap (λ (s : Station). called s c .station) (h .station-stands) ∙ sym (after-more station (v .calls) c)
+
+  answer-next : (c : StationCall) → v .said ++ (called (far .station) c .answer ∷ []) ≡ answers station (v .calls ++ (c ∷ []))
+  answer-next c =
+      ap₂ (λ (l : List ℕ) (s : Station). l ++ (called s c .answer ∷ [])) (h .station-answered) (h .station-stands)
+      ∙ sym (answers-more station (v .calls) c)
+
+  -- number k, delivered
+  pub delivery-keeps : (r : List ℕ) → Arriving r → numberIn r ≡ far .count → Holds station near store (delivered far r .far) (delivering v (carriedIn r) (replyOf (far .count + 1)) (datagram (carriedIn r)) (heard (far .station) (carriedIn r) .answer))
+  delivery-keeps r a e =
+      let k : ℕ = length (v .out) in
+      let one-more : length (v .out ++ (carriedIn r ∷ [])) ≡ k + 1 = length-append (v .out) (carriedIn r ∷ []) in
+      let this : k < length (v .pdus) = omega (arith, a .accepted, e, h .far-count) in
+      let pdu : carriedIn r ≡ getD (v .pdus) k [] = a .pdu ∙ ap (λ (n : ℕ). getD (v .pdus) n []) (e ∙ h .far-count) in
+      record {
+        near-accepted = h .near-accepted;
+        near-acknowledged = h .near-acknowledged;
+        far-count = ap (λ (n : ℕ). n + 1) (h .far-count) ∙ sym one-more;
+        acknowledged-put-out = omega (arith, one-more, h .acknowledged-put-out);
+        put-out-accepted = omega (arith, one-more, this);
+        window = h .window;
+        few = h .few;
+        carried = h .carried;
+        whole = h .whole;
+        stored = h .stored;
+        known =
+            known-also (v .pdus) (v .records) _ (replyOf (far .count + 1))
+            (λ x w. known-later (v .pdus) k _ x (omega (arith, one-more)) (h .known x w))
+            (reply-record (far .count + 1) (omega (arith, one-more, h .far-count)) refl);
+        in-order =
+            ap₂ (λ (l : List (List ℕ)) (x : List ℕ). l ++ (x ∷ [])) (h .in-order) pdu
+            ∙ sym (take-suc (v .pdus) k [] this)
+            ∙ ap (λ (n : ℕ). take n (v .pdus)) (sym (one-more ∙ add-one k));
+        station-stands = station-next (datagram (carriedIn r));
+        station-answered = answer-next (datagram (carriedIn r));
+      }
+
+  -- ---- the clock
+
+  pub clock-keeps : (t : ℕ) → Holds station near store (record { count = far .count; station = clocked (far .station) t .station }) (timing v (time t) (clocked (far .station) t .answer))
+  clock-keeps t =
+      record {
+        near-accepted = h .near-accepted;
+        near-acknowledged = h .near-acknowledged;
+        far-count = h .far-count;
+        acknowledged-put-out = h .acknowledged-put-out;
+        put-out-accepted = h .put-out-accepted;
+        window = h .window;
+        few = h .few;
+        carried = h .carried;
+        whole = h .whole;
+        stored = h .stored;
+        known = h .known;
+        in-order = h .in-order;
+        station-stands = station-next (time t);
+        station-answered = answer-next (time t);
+      }

@@ -1,0 +1,111 @@
+-- What the invariant makes sure of: a number that is held is sent where there is room; its record, handed over with room, is answered with a
+-- reply above that number; and such a reply becomes the acknowledged count. Each breaks no rule, since its record is that of a carried PDU or
+-- a reply.
+-- Assumes nothing.
+use Prim.Native.Nat.{ℕ, _+_, _≤_, _<_, max}
+use mathlib.Core.Path.{_≡_, refl, sym, ap, ap₂, subst, _∙_}
+use mathlib.Core.Logic.{_⊎_, inl, inr}
+use mathlib.Core.List.{List, [], _∷_, _++_}
+use lib.ListN.{length, getD, take, drop}
+use native.Mathlib.Omega.{arith}
+use Rattle.wire.specs.Bytes.{Bytes}
+use Rattle.wire.specs.First.{first}
+use Rattle.pdu.specs.Reading.{reading}
+use Rattle.pdu.specs.Numbers.{mostWords}
+use Rattle.station.specs.declared.Station.{Station}
+use Rattle.trunk.specs.Kinds.{headSize, recordSize, kindOf, transmitterKind}
+use Rattle.trunk.specs.Record.{replyOf, numberIn}
+use Rattle.trunk.specs.Near.{rowSize, rowKind, sendRules, sent, sentOut, replied}
+use Rattle.trunk.specs.Far.{leastOutput, arrivalRules, arrived, replyAfter, outputAfter}
+use Rattle.trunk.specs.Line.{record-heard, writtenBy}
+use Rattle.trunk.specs.Plain.{KnownKind}
+use Rattle.trunk.specs.declared.Near.{Near}
+use Rattle.trunk.specs.declared.Far.{Far}
+use Rattle.trunk.specs.declared.Sent.the-variants.{Size}
+use Rattle.trunk.specs.declared.Arrived.{Arrived}
+use Rattle.trunk.proofs.RecordLaws.{PduKind, carried-kind, recordFor, pdu-number, pdu-sound, reply-sound, reply-written}
+use Rattle.trunk.proofs.RuleLaws.{send-verdict, arrival-verdict, arrival-passes, reply-passes}
+use Rattle.trunk.proofs.CallLaws.{sends, acknowledges, ArrivalOutcome, arrival-refused, arrival-delivered, arrival-repeat, arrival-early, arrival-outcome}
+use Rattle.trunk.proofs.LogLaws.{Seen}
+use Rattle.trunk.proofs.Invariant.{recordIn, pdu-record, Holds, small, record-fits, larger, known-bytes, held-kind, held-size, held-written}
+
+known-kind : (kind : ℕ) → PduKind kind → KnownKind kind
+known-kind kind k = elim (k .listed) [ inl few ↦ inl few | inr same ↦ inr (inl same) ]
+
+module _ (station : Station) (near : Near) (store : List ℕ) (far : Far) (v : Seen) (h : Holds station near store far v) where
+  -- a number that is held is sent, where there is room for a row
+  pub sent-next : (i : ℕ) (out : List ℕ) → v .confirmed ≤ i → i < length (v .pdus) → rowSize ≤ length out → (sent near store i (length out) ≡ Size (recordSize (rowKind store i))) × (take (recordSize (rowKind store i)) (sentOut near store i out) ≡ recordIn (v .pdus) i)
+  sent-next i out held l room =
+      let kind = carried-kind (getD (v .pdus) i []) (h .carried i l .kind) .kind in
+      let same = held-kind station near store far v h i held l in
+      let fits : recordSize (rowKind store i) ≤ length out = omega (arith, held-size station near store far v h i held l, record-fits station near store far v h i l) in
+      let passes =
+      send-verdict near store i (length out) .none .1 (
+        h .whole (omega arith),
+        (
+          (omega (arith, h .near-acknowledged), omega (arith, h .near-accepted)),
+          (subst KnownKind (sym same) (known-kind _ kind), ((λ e. kind .no-reply (sym same ∙ e)), (fits, tt))),
+        ),
+      ) in
+      let done = sends near store i out passes in
+      (done .0, ap (take (recordSize (rowKind store i))) (done .1) ∙ held-written station near store far v h i held l (drop (recordSize (rowKind store i)) out))
+
+  -- the reply to the record of an accepted number that is not above k: its number, which is above that one
+  pub record Replied (i : ℕ) (o : Arrived) (reply out : List ℕ) : Type 0 where
+    pub number : ℕ
+    pub above : i < number
+    pub accepted : number ≤ length (v .pdus)
+    pub at-count : i ≡ length (v .out) → number ≡ length (v .out) + 1
+    pub reply-is : take headSize reply ≡ replyOf number
+    pub written : writtenBy (record-heard (recordIn (v .pdus) i) (o .answer) reply out) ≡ replyOf number ∷ []
+
+  pub replied-next : (i : ℕ) (reply out : List ℕ) → i < length (v .pdus) → i ≤ length (v .out) → headSize ≤ length reply → leastOutput ≤ length out → Replied i (arrived far (recordIn (v .pdus) i) (length reply) (length out)) (replyAfter far (recordIn (v .pdus) i) reply (length out)) (outputAfter far (recordIn (v .pdus) i) (length reply) out)
+  replied-next i reply out l up-to fits room = by (arrival-outcome far (recordIn (v .pdus) i) reply out bytes)
+    where
+      bytes : Bytes (recordIn (v .pdus) i)
+      bytes = known-bytes station near store far v h (recordIn (v .pdus) i) (pdu-record i l refl)
+
+      number : numberIn (recordIn (v .pdus) i) ≡ i
+      number = pdu-number i (getD (v .pdus) i []) (h .carried i l) (small station near store far v h i l)
+
+      passes : first (arrivalRules (recordIn (v .pdus) i) (length reply) (length out)) ≡ 0
+      passes =
+          arrival-passes (recordIn (v .pdus) i) (length reply) (length out)
+          (pdu-sound i (getD (v .pdus) i []) (h .carried i l) (small station near store far v h i l))
+          fits
+          room
+
+      by : {o : Arrived} {reply′ out′ : List ℕ} → ArrivalOutcome far (recordIn (v .pdus) i) reply out o reply′ out′ → Replied i o reply′ out′
+      by (arrival-refused n f) =
+          let x = arrival-verdict (recordIn (v .pdus) i) bytes (length reply) (length out) .some n .1 f in
+          absurd (x .1 (sym (x .0) ∙ passes))
+      by (arrival-delivered m e) =
+          let reply-is = reply-written (far .count + 1) (drop headSize reply) in
+          record {
+            number = far .count + 1;
+            above = omega (arith, e, number);
+            accepted = omega (arith, e, number);
+            at-count = λ same. ap (λ (n : ℕ). n + 1) (h .far-count);
+            reply-is = reply-is;
+            written = ap (λ (x : List ℕ). x ∷ []) reply-is;
+          }
+      by (arrival-repeat m e) =
+          let reply-is = reply-written (far .count) (drop headSize reply) in
+          record {
+            number = far .count;
+            above = omega (arith, e, number);
+            accepted = omega (arith, h .far-count, h .put-out-accepted);
+            at-count = λ same. absurd (omega (arith, e, number, h .far-count));
+            reply-is = reply-is;
+            written = ap (λ (x : List ℕ). x ∷ []) reply-is;
+          }
+      by (arrival-early m e) = absurd (omega (arith, e, number, h .far-count))
+
+  -- a reply up to the accepted count, and not below the acknowledged one
+  pub acknowledged-next : (n : ℕ) → v .confirmed ≤ n → n ≤ length (v .pdus) → replied near (replyOf n) .near .acknowledged ≡ n
+  acknowledged-next n low high =
+      let sound = reply-sound n (omega (arith, h .few)) in
+      acknowledges near (replyOf n) (reply-passes near (replyOf n) n sound (omega (arith, h .near-accepted)))
+      ∙ larger station near store far v h (numberIn (replyOf n))
+      ∙ ap (max (v .confirmed)) (sound .number-is)
+      ∙ omega arith
