@@ -27,7 +27,7 @@ use Rattle.pdu.proofs.WrittenForm.{written-form-exactly}
 use Rattle.pdu.proofs.RuleLaws.{equal, at-most, below, not-below, negated, both, one-of, neither, if-so, Agree, done, _then_, Verdict, verdict}
 use Rattle.trunk.specs.Kinds.{words, transmitter, nothing, unknown, load, isUnknown, recordSize, headSize, transmitterKind, replyKind, noKind, kindOf}
 use Rattle.trunk.specs.Record.{kindIn, numberIn, carriedIn, lastNumber, unknownKind, wrongSize, isReply, lastOfAll, wrongCarried}
-use Rattle.trunk.specs.Near.{rows, storeSize, wrongStore, offerRules, isHeld, rowKind, sendRules, replyRules}
+use Rattle.trunk.specs.Near.{rows, storeSize, wrongStore, offerRulesOf, offerRules, isHeld, rowKind, sendRules, replyRules}
 use Rattle.trunk.specs.Far.{leastOutput, noRoom, arrivalRules}
 use Rattle.trunk.specs.Plain.{KnownKind, KindRule, LengthRule, CarriedRule, TypeRule, plainOffer, plainSend, plainReply, plainArrival}
 use Rattle.trunk.specs.declared.Near.{Near}
@@ -141,7 +141,7 @@ one-more {broken = false} z h v =
     }
 
 pub offer-verdict : (near : Near) (store d : List ℕ) → Verdict (offerRules near store d) (plainOffer near store d)
-unfolding offerRules
+unfolding offerRulesOf
 offer-verdict near store d =
     rw (refusal-read d)
     (one-more (λ b e. omega arith) (store-says store)
