@@ -3,17 +3,17 @@
 -- its plain statement holds (`offer-exactly-when` and the like). By the verdicts of the rules.
 -- Assumes nothing.
 use Prim.Native.Nat.{ℕ, _+_, _≤_, _<_, max}
-use mathlib.Core.Path.{_≡_, refl, sym, ap, subst, _∙_}
-use mathlib.Core.Logic.{_↔_, _≢_}
+use mathlib.Core.Path.{_≡_, refl}
+use mathlib.Core.Logic.{_≢_}
 use mathlib.Core.Bool.{Bool, true, false, cond}
-use mathlib.Core.List.{List, [], _∷_, _++_}
+use mathlib.Core.List.{List, _++_}
 use lib.ListN.{length, drop}
 use lib.Dec.{eqb, ltb}
-use borrow.Author.Tests.{eq-eqb, eqb-true, eqb-false, ltb-true, ltb-false}
 use native.Mathlib.Omega.{arith}
+use borrow.Author.Tests.{eqb-true, eqb-false, ltb-true, ltb-false}
 use Rattle.wire.specs.Bytes.{Bytes, splice}
-use Rattle.wire.specs.First.{Refusal, first}
-use Rattle.pdu.specs.Plain.{Rule, Met, FirstBroken}
+use Rattle.wire.specs.First.{first}
+use Rattle.pdu.specs.Plain.{Met, FirstBroken}
 use Rattle.pdu.proofs.RuleLaws.{Verdict}
 use Rattle.trunk.specs.Kinds.{headSize, recordSize}
 use Rattle.trunk.specs.Record.{replyOf, numberIn, carriedIn}
@@ -28,7 +28,7 @@ use Rattle.trunk.specs.declared.Sent.{Sent}
 use Rattle.trunk.specs.declared.Sent.the-variants.{Refused as sendRefused, Size}
 use Rattle.trunk.specs.declared.Reply.the-variants.{Refused as replyRefused, Acknowledged}
 use Rattle.trunk.specs.declared.Replied.{Replied}
-use Rattle.trunk.specs.declared.Arrival.the-variants.{Refused as arrivalRefused, Delivered, Repeat, Early}
+use Rattle.trunk.specs.declared.Arrival.the-variants.{Refused as arrivalRefused, Repeat, Early}
 use Rattle.trunk.specs.declared.Arrived.{Arrived}
 use Rattle.trunk.proofs.RuleLaws.{offer-verdict, send-verdict, reply-verdict, arrival-verdict}
 

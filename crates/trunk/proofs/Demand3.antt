@@ -2,9 +2,9 @@
 -- settings, whatever is lost, repeated or reordered. Each call keeps the invariant and says what it should; the list goes by induction.
 -- Assumes nothing.
 use Prim.Native.Nat.{ℕ, _+_, _≤_, _<_, max}
-use mathlib.Core.Path.{_≡_, refl, sym, ap, ap₂, subst, subst₂, _∙_}
+use mathlib.Core.Path.{_≡_, refl, sym, ap, ap₂, subst, _∙_}
 use mathlib.Core.List.{List, [], _∷_, _++_, List·Memᴰ, List·Memᴰ·not-nil}
-use lib.ListN.{length, getD, take, drop}
+use lib.ListN.{length, take, drop}
 use lib.Seq.{take-at}
 use native.Mathlib.Omega.{arith}
 use Rattle.wire.specs.Bytes.{Bytes}
@@ -15,22 +15,21 @@ use Rattle.station.specs.Units.{made}
 use Rattle.station.specs.declared.Station.{Station}
 use Rattle.trunk.specs.Kinds.{headSize, recordSize}
 use Rattle.trunk.specs.Record.{replyOf, numberIn, carriedIn}
-use Rattle.trunk.specs.Near.{rowKind, offerRecord, offered, storeAfter, sent, sentOut, replied}
-use Rattle.trunk.specs.Far.{leastOutput, arrived, replyAfter, outputAfter, ticked}
-use Rattle.trunk.specs.Line.{Entry, offer-made, send-made, reply-heard, record-heard, clock-set, Call, offer, send, to-near, to-far, tick, Line, start, step, run, accepted, putOut, acknowledged, written, Allowed, Fair}
-use Rattle.trunk.specs.Demand.{pduAt, recordAt, count, Says, AllSay, Demand3}
+use Rattle.trunk.specs.Near.{rowKind, offerRecord, replied}
+use Rattle.trunk.specs.Far.{ticked}
+use Rattle.trunk.specs.Line.{Entry, offer-made, send-made, reply-heard, record-heard, clock-set, Call, offer, send, to-near, to-far, tick, Line, start, step, run, accepted, acknowledged, written, Allowed, Fair}
+use Rattle.trunk.specs.Demand.{pduAt, count, Says, AllSay, Demand3}
 use Rattle.trunk.specs.declared.Near.{Near}
 use Rattle.trunk.specs.declared.Far.{Far}
 use Rattle.trunk.specs.declared.Offered.{Offered}
 use Rattle.trunk.specs.declared.Sent.{Sent}
 use Rattle.trunk.specs.declared.Replied.{Replied}
 use Rattle.trunk.specs.declared.Arrived.{Arrived}
-use Rattle.trunk.specs.declared.Ticked.{Ticked}
 use Rattle.trunk.proofs.RecordLaws.{reply-written}
 use Rattle.trunk.proofs.CallLaws.{OfferOutcome, offer-refused, offer-taken, offer-outcome, SendOutcome, send-refused, send-taken, send-outcome, ReplyOutcome, reply-refused, reply-taken, reply-outcome, ArrivalOutcome, arrival-refused, arrival-delivered, arrival-repeat, arrival-early, arrival-outcome}
-use Rattle.trunk.proofs.LogLaws.{Seen, seen, adds-nothing, accepting, adds-accepted, writing, adds-written, confirming, delivering, adds-delivered, timing, adds-timed}
+use Rattle.trunk.proofs.LogLaws.{Seen, seen, adds-nothing, adds-accepted, writing, adds-written, confirming, delivering, adds-delivered, adds-timed}
 use Rattle.trunk.proofs.Progress.{replied-next, acknowledged-next}
-use Rattle.trunk.proofs.Invariant.{recordIn, Known, reply-record, Holds, writes, offer-keeps, held-size, held-written, send-keeps, larger, reply-keeps, known-bytes, arriving, delivery-keeps, clock-keeps}
+use Rattle.trunk.proofs.Invariant.{reply-record, Holds, writes, offer-keeps, held-size, held-written, send-keeps, larger, reply-keeps, known-bytes, arriving, delivery-keeps, clock-keeps}
 
 -- after a log: the invariant, and every entry says what it should
 pub record Stands (station : Station) (near : Near) (store : List ℕ) (far : Far) (log : List Entry) : Type 0 where

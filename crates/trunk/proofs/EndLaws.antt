@@ -1,27 +1,26 @@
 -- What the rules that an end's call has passed say, for the proofs of the code: the store's size, the kind, the room.
 -- Assumes nothing.
-use Prim.Native.Nat.{ℕ, _+_, _-_, _*_, _/_, _≤_, _<_}
-use mathlib.Core.Path.{_≡_, refl, sym, ap, subst, _∙_}
+use Prim.Native.Nat.{ℕ, _+_, _-_, _/_, _≤_, _<_}
+use mathlib.Core.Path.{_≡_, refl, sym, ap, _∙_}
 use mathlib.Core.Bool.{Bool, true, false, cond, not, _&&_}
-use mathlib.Core.List.{List, [], _∷_, _++_}
+use mathlib.Core.List.{List, _∷_, _++_}
 use lib.ListN.{length, take, drop, length-take, length-drop}
 use lib.Dec.{eqb, leb, ltb}
-use borrow.Author.Tests.{eqb-true, eqb-false, ltb-false, not-false, leb-true}
 use native.Mathlib.Nat.{add-sub-cancel-left}
 use native.Mathlib.Omega.{arith}
+use borrow.Author.Tests.{eqb-true, eqb-false, ltb-false, not-false, leb-true}
 use Rattle.wire.specs.Bytes.{splice}
 use Rattle.wire.specs.First.{Refusal, _given-when_, first}
 use Rattle.wire.proofs.ByteLaws.{splice-start}
 use Rattle.wire.proofs.FirstLaws.{none-behind, unbroken}
-use Rattle.pdu.specs.Records.{signalSize}
 use Rattle.pdu.specs.Reading.{reading, numberOf}
 use Rattle.pdu.specs.declared.Reading.{Reading}
 use Rattle.pdu.proofs.ReadingLaws.{neither}
 use Rattle.pdu.proofs.Carried.{taken-words}
-use Rattle.trunk.specs.Kinds.{Load, words, transmitter, nothing, unknown, load, loadSize, recordSize, kindOf, kindOfWords, noKind}
+use Rattle.trunk.specs.Kinds.{words, transmitter, nothing, unknown, loadSize, recordSize, kindOf, kindOfWords, noKind}
 use Rattle.trunk.specs.Record.{kindIn, numberIn, isReply, lastOfAll, checkRules}
 use Rattle.trunk.specs.Near.{offerRulesOf, sendRules, rowKind, rowRecord, rowStart}
-use Rattle.trunk.specs.Far.{arrivalRules, noRoom}
+use Rattle.trunk.specs.Far.{arrivalRules}
 use Rattle.trunk.specs.declared.Near.{Near}
 use Rattle.trunk.proofs.KindLaws.{right-size}
 use Rattle.trunk.proofs.WriteLaws.{carried-type}

@@ -3,16 +3,15 @@
 -- Assumes nothing.
 use Prim.Native.Nat.{ℕ, _+_, _≤_, _<_, max}
 use mathlib.Core.Path.{_≡_, refl, sym, ap, ap₂, subst, subst₂, _∙_}
-use mathlib.Core.Logic.{_≢_, _⊎_, inl, inr}
-use mathlib.Core.Bool.{Bool, true, false, cond}
+use mathlib.Core.Logic.{_≢_, inl, inr}
+use mathlib.Core.Bool.{Bool, true, false}
 use mathlib.Core.List.{List, [], _∷_, _++_, List·Memᴰ, List·Memᴰ·append-cases, List·Memᴰ·eq-of-singleton}
 use lib.ListN.{length, getD, take, drop, length-append, List·getD-append}
 use lib.Seq.{length-sets, take-at, take-suc, take-append-le, getD-append-seam}
 use lib.Dec.{ltb}
-use borrow.Author.Tests.{ltb-true, ltb-false, eqb-false}
-use native.Mathlib.Nat.{max-eq-left, max-eq-right}
 use native.Mathlib.Numerals.{add-one}
 use native.Mathlib.Omega.{arith}
+use borrow.Author.Tests.{ltb-true, ltb-false, eqb-false}
 use Rattle.wire.specs.Bytes.{Bytes, splice}
 use Rattle.pdu.specs.Plain.{Met}
 use Rattle.pdu.specs.Reading.{reading}
@@ -22,14 +21,14 @@ use Rattle.station.specs.Runs.{Call as StationCall, datagram, time, called, aft
 use Rattle.station.specs.Hearing.{heard}
 use Rattle.station.specs.Clock.{clocked}
 use Rattle.station.specs.declared.Station.{Station}
-use Rattle.trunk.specs.Kinds.{headSize, recordSize, replyKind, noKind, kindOf}
+use Rattle.trunk.specs.Kinds.{recordSize, replyKind, kindOf}
 use Rattle.trunk.specs.Record.{recordOf, replyOf, kindIn, numberIn, carriedIn, lastNumber}
 use Rattle.trunk.specs.Near.{rows, rowSize, storeSize, rowStart, rowKind, rowRecord, offerRecord, acknowledgedAfter}
 use Rattle.trunk.specs.Far.{delivered}
-use Rattle.trunk.specs.Plain.{plainOffer, plainSend, plainReply, plainArrival}
+use Rattle.trunk.specs.Plain.{plainOffer, plainReply}
 use Rattle.trunk.specs.declared.Near.{Near}
 use Rattle.trunk.specs.declared.Far.{Far}
-use Rattle.trunk.proofs.RecordLaws.{Carried, carried-kind, carried-form, carried-in, record-bytes, recordFor, pdu-kind, pdu-number, pdu-length, SoundReply, reply-sound, length-reply, kind-in}
+use Rattle.trunk.proofs.RecordLaws.{Carried, carried-kind, carried-form, carried-in, record-bytes, recordFor, pdu-kind, pdu-number, pdu-length, reply-sound, kind-in}
 use Rattle.trunk.proofs.RuleLaws.{type-says}
 use Rattle.trunk.proofs.CallLaws.{after-is-max}
 use Rattle.trunk.proofs.RowLaws.{RowHolds, row-written, row-kept, rows-differ, row-kind}

@@ -1,16 +1,16 @@
 -- Small laws of the table of kinds and of record rules that the proofs of the code share. Each goes by the cases of its tests.
 -- Assumes nothing.
 use Prim.Native.Nat.{ℕ, _+_, _≤_}
-use mathlib.Core.Path.{_≡_, refl, sym, ap, _∙_}
+use mathlib.Core.Path.{_≡_, refl, ap}
 use mathlib.Core.Bool.{Bool, true, false, cond, not, _&&_, _||_}
 use mathlib.Core.List.{List}
 use lib.ListN.{length}
-use lib.Dec.{eqb, ltb}
-use borrow.Author.Tests.{eqb-true, ne-eqb, lt-ltb, le-ltb, not-false}
+use lib.Dec.{eqb}
 use native.Mathlib.Omega.{arith}
-use Rattle.trunk.specs.Kinds.{Load, words, transmitter, nothing, unknown, load, loadSize, isUnknown, recordSize}
+use borrow.Author.Tests.{eqb-true, ne-eqb, lt-ltb, le-ltb, not-false}
 use Rattle.wire.specs.First.{first}
 use Rattle.wire.proofs.FirstLaws.{unbroken}
+use Rattle.trunk.specs.Kinds.{words, transmitter, nothing, unknown, load, loadSize, isUnknown, recordSize}
 use Rattle.trunk.specs.Record.{kindIn, unknownKind, wrongSize, checkRules}
 use Rattle.trunk.specs.Near.{replyRules}
 use Rattle.trunk.specs.Far.{arrivalRules}

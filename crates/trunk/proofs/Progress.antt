@@ -3,19 +3,17 @@
 -- a reply.
 -- Assumes nothing.
 use Prim.Native.Nat.{ℕ, _+_, _≤_, _<_, max}
-use mathlib.Core.Path.{_≡_, refl, sym, ap, ap₂, subst, _∙_}
-use mathlib.Core.Logic.{_⊎_, inl, inr}
-use mathlib.Core.List.{List, [], _∷_, _++_}
+use mathlib.Core.Path.{_≡_, refl, sym, ap, subst, _∙_}
+use mathlib.Core.Logic.{inl, inr}
+use mathlib.Core.List.{List, [], _∷_}
 use lib.ListN.{length, getD, take, drop}
 use native.Mathlib.Omega.{arith}
 use Rattle.wire.specs.Bytes.{Bytes}
 use Rattle.wire.specs.First.{first}
-use Rattle.pdu.specs.Reading.{reading}
-use Rattle.pdu.specs.Numbers.{mostWords}
 use Rattle.station.specs.declared.Station.{Station}
-use Rattle.trunk.specs.Kinds.{headSize, recordSize, kindOf, transmitterKind}
+use Rattle.trunk.specs.Kinds.{headSize, recordSize}
 use Rattle.trunk.specs.Record.{replyOf, numberIn}
-use Rattle.trunk.specs.Near.{rowSize, rowKind, sendRules, sent, sentOut, replied}
+use Rattle.trunk.specs.Near.{rowSize, rowKind, sent, sentOut, replied}
 use Rattle.trunk.specs.Far.{leastOutput, arrivalRules, arrived, replyAfter, outputAfter}
 use Rattle.trunk.specs.Line.{record-heard, writtenBy}
 use Rattle.trunk.specs.Plain.{KnownKind}
@@ -23,7 +21,7 @@ use Rattle.trunk.specs.declared.Near.{Near}
 use Rattle.trunk.specs.declared.Far.{Far}
 use Rattle.trunk.specs.declared.Sent.the-variants.{Size}
 use Rattle.trunk.specs.declared.Arrived.{Arrived}
-use Rattle.trunk.proofs.RecordLaws.{PduKind, carried-kind, recordFor, pdu-number, pdu-sound, reply-sound, reply-written}
+use Rattle.trunk.proofs.RecordLaws.{PduKind, carried-kind, pdu-number, pdu-sound, reply-sound, reply-written}
 use Rattle.trunk.proofs.RuleLaws.{send-verdict, arrival-verdict, arrival-passes, reply-passes}
 use Rattle.trunk.proofs.CallLaws.{sends, acknowledges, ArrivalOutcome, arrival-refused, arrival-delivered, arrival-repeat, arrival-early, arrival-outcome}
 use Rattle.trunk.proofs.LogLaws.{Seen}

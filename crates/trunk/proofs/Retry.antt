@@ -2,28 +2,26 @@
 -- reply is handed back. From every line that a fair list of calls reached, whatever was lost before, at most eight such rounds leave nothing
 -- unacknowledged, so that everything accepted is put out. Each round raises the acknowledged count, by what the invariant makes sure of.
 -- Assumes nothing.
-use Prim.Native.Nat.{ℕ, zero, suc, _+_, _-_, _≤_, _<_}
+use Prim.Native.Nat.{ℕ, zero, suc, _+_, _≤_, _<_}
 use mathlib.Core.Path.{_≡_, refl, sym, ap, subst, _∙_}
 use mathlib.Core.Bool.{Bool, true, false, cond}
 use mathlib.Core.List.{List, [], _∷_, _++_, append-nil, List·Memᴰ, List·Memᴰ·head, Memᴰ·append-right}
 use lib.ListN.{length, take}
 use lib.Seq.{take-all}
 use lib.Dec.{ltb}
-use borrow.Author.Tests.{ltb-true, ltb-false}
 use native.Mathlib.Omega.{arith}
+use borrow.Author.Tests.{ltb-true, ltb-false}
 use Rattle.station.specs.Units.{made}
 use Rattle.station.specs.declared.Station.{Station}
-use Rattle.trunk.specs.Kinds.{headSize, recordSize}
-use Rattle.trunk.specs.Record.{replyOf}
-use Rattle.trunk.specs.Near.{rows, rowSize, rowKind, sent, sentOut, replied}
-use Rattle.trunk.specs.Far.{leastOutput, arrived, replyAfter, outputAfter}
-use Rattle.trunk.specs.Line.{send-made, record-heard, Call, send, to-near, to-far, Line, start, step, run, accepted, putOut, acknowledged, written, writtenBy, Allowed, Fair}
+use Rattle.trunk.specs.Kinds.{headSize}
+use Rattle.trunk.specs.Near.{rows, rowSize, sentOut, replied}
+use Rattle.trunk.specs.Far.{leastOutput, replyAfter}
+use Rattle.trunk.specs.Line.{send-made, Call, send, to-near, to-far, Line, start, step, run, accepted, putOut, acknowledged, written, writtenBy, Fair}
 use Rattle.trunk.specs.Demand.{recordAt, count}
 use Rattle.trunk.specs.declared.Sent.{Sent}
 use Rattle.trunk.specs.declared.Sent.the-variants.{Size}
 use Rattle.trunk.proofs.LogLaws.{seen}
-use Rattle.trunk.proofs.Invariant.{Holds}
-use Rattle.trunk.proofs.Progress.{sent-next, Replied, replied-next, acknowledged-next}
+use Rattle.trunk.proofs.Progress.{sent-next, replied-next, acknowledged-next}
 use Rattle.trunk.proofs.Demand3.{StandsAt, run-stands, start-stands}
 
 -- one round: send the lowest number held, hand over its record, hand back the reply

@@ -1,18 +1,17 @@
 -- Laws of the store's rows: bytes spliced into a row stand in it, and leave every other row as it stood; eight numbers in a row have rows of
 -- their own. By the laws of lists and of remainders.
 -- Assumes nothing.
-use Prim.Native.Nat.{ℕ, suc, _+_, _*_, _%_, _≤_, _<_}
-use mathlib.Core.Path.{_≡_, refl, sym, ap, ap₂, subst, _∙_}
-use mathlib.Core.Logic.{_≢_, _⊎_, inl, inr}
+use Prim.Native.Nat.{ℕ, suc, _+_, _%_, _≤_, _<_}
+use mathlib.Core.Path.{_≡_, refl, sym, ap, _∙_}
+use mathlib.Core.Logic.{_≢_}
 use mathlib.Core.Bool.{Bool, true, false}
 use mathlib.Core.List.{List, [], _∷_, _++_, append-assoc}
 use lib.ListN.{length, getD, take, drop, set}
-use lib.Seq.{sets, length-sets, sets-eq, take-at, drop-at, take-add, drop-set-lt, take-set-le, length-take-le, getD-take, getD-drop}
+use lib.Seq.{length-sets, sets-eq, take-at, drop-at, take-add, drop-set-lt, take-set-le, length-take-le, getD-take, getD-drop}
 use lib.Dec.{ltb}
-use borrow.Author.Tests.{ltb-true, ltb-false}
-use native.Mathlib.Nat.{add-suc, suc-add}
 use native.Mathlib.Omega.{arith}
-use Rattle.wire.specs.Bytes.{num, splice}
+use borrow.Author.Tests.{ltb-true, ltb-false}
+use Rattle.wire.specs.Bytes.{splice}
 use Rattle.trunk.specs.Record.{kindIn}
 use Rattle.trunk.specs.Near.{rows, rowSize, storeSize, rowStart, rowKind}
 

@@ -1,33 +1,32 @@
 -- Each call's tests say the same as the plain rules in their place, so its refusal number is 0 exactly where every rule holds, and is n exactly
 -- where n is the number of the first that does not. By the laws of tests and of rules in order.
 -- Assumes nothing.
-use Prim.Native.Nat.{ℕ, zero, suc, _+_, _-_, _≤_, _<_}
+use Prim.Native.Nat.{ℕ, _+_, _-_, _≤_, _<_}
 use mathlib.Core.Path.{_≡_, refl, sym, ap, subst, _∙_}
-use mathlib.Core.Logic.{_↔_, _≢_, _⊎_, inl, inr, Iff·trans}
-use mathlib.Core.Bool.{Bool, true, false, cond, not, _&&_, _||_, true≢false, false≢true}
-use mathlib.Core.List.{List, [], _∷_}
+use mathlib.Core.Logic.{_↔_, _≢_, inl, inr, Iff·trans}
+use mathlib.Core.Bool.{Bool, true, false, cond, not, _||_, true≢false}
+use mathlib.Core.List.{List, _∷_}
 use lib.ListN.{length}
 use lib.Dec.{eqb, ltb, leb}
-use borrow.Author.Tests.{le-ltb, not-true, eqb-true, eqb-false, eq-eqb, ne-eqb, ltb-true, lt-ltb}
 use native.Mathlib.Omega.{arith}
-use Rattle.wire.specs.Bytes.{num, Bytes}
+use borrow.Author.Tests.{le-ltb, not-true, eqb-true, eqb-false, eq-eqb, ne-eqb, ltb-true, lt-ltb}
+use Rattle.wire.specs.Bytes.{Bytes}
 use Rattle.wire.specs.First.{Refusal, _given-when_, first}
 use Rattle.wire.proofs.FitLaws.{bytes-drop}
-use Rattle.pdu.specs.Plain.{Rule, _unless_, Met, FirstBroken}
+use Rattle.pdu.specs.Plain.{Rule, _unless_}
 use Rattle.pdu.specs.Numbers.{mostWords}
 use Rattle.pdu.specs.Words.{wordsIn}
-use Rattle.pdu.specs.Reading.{reading, refusal, numberOf}
-use Rattle.pdu.specs.Writing.{writtenForm, inWrittenForm}
+use Rattle.pdu.specs.Reading.{reading, refusal}
 use Rattle.pdu.specs.declared.Signal.{Signal as SignalFields}
 use Rattle.pdu.specs.declared.Reading.{Reading}
 use Rattle.pdu.specs.declared.Reading.the-variants.{Refused, Transmitter, Signal}
 use Rattle.pdu.proofs.TakenExactly.{reads-as, refusal-read}
 use Rattle.pdu.proofs.Carried.{taken-words}
 use Rattle.pdu.proofs.WrittenForm.{written-form-exactly}
-use Rattle.pdu.proofs.RuleLaws.{equal, at-most, below, not-below, negated, both, one-of, neither, if-so, Agree, done, _then_, Verdict, verdict}
-use Rattle.trunk.specs.Kinds.{words, transmitter, nothing, unknown, load, isUnknown, recordSize, headSize, transmitterKind, replyKind, noKind, kindOf}
+use Rattle.pdu.proofs.RuleLaws.{equal, at-most, below, not-below, negated, both, one-of, neither, if-so, done, _then_, Verdict, verdict}
+use Rattle.trunk.specs.Kinds.{words, transmitter, nothing, unknown, load, isUnknown, headSize, transmitterKind, replyKind, noKind, kindOf}
 use Rattle.trunk.specs.Record.{kindIn, numberIn, carriedIn, lastNumber, unknownKind, wrongSize, isReply, lastOfAll, wrongCarried}
-use Rattle.trunk.specs.Near.{rows, storeSize, wrongStore, offerRulesOf, offerRules, isHeld, rowKind, sendRules, replyRules}
+use Rattle.trunk.specs.Near.{rows, storeSize, wrongStore, offerRulesOf, offerRules, isHeld, sendRules, replyRules}
 use Rattle.trunk.specs.Far.{leastOutput, noRoom, arrivalRules}
 use Rattle.trunk.specs.Plain.{KnownKind, KindRule, LengthRule, CarriedRule, TypeRule, plainOffer, plainSend, plainReply, plainArrival}
 use Rattle.trunk.specs.declared.Near.{Near}

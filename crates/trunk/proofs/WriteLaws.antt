@@ -1,16 +1,15 @@
 -- What the writer leaves of a datagram that the trunk carries: its written form, spliced in at the start, which fits a row of the store. A part
 -- of a buffer that was lent on and spliced is a splice of the whole.
 -- Assumes nothing.
-use Prim.Native.Nat.{ℕ, _+_, _-_, _*_, _≤_, _<_}
-use mathlib.Core.Path.{_≡_, refl, sym, ap, ap₂, subst, _∙_}
+use Prim.Native.Nat.{ℕ, _+_, _≤_}
+use mathlib.Core.Path.{_≡_, refl, sym, ap, subst, _∙_}
 use mathlib.Core.Bool.{Bool, true, false, cond}
-use mathlib.Core.List.{List, [], _∷_, _++_, append-assoc}
-use lib.ListN.{length, take, drop, length-append, length-take, length-drop, take-append-drop}
-use lib.Seq.{sets-eq, take-add, drop-drop, length-take-le, take-append-le, drop-append-le}
+use mathlib.Core.List.{List, [], _++_, append-assoc}
+use lib.ListN.{length, take, drop, length-append, length-drop, take-append-drop}
+use lib.Seq.{sets-eq, drop-drop, length-take-le, drop-append-le}
 use lib.Dec.{eqb}
-use borrow.Author.Tests.{eq-eqb, eqb-true, eqb-false}
 use native.Mathlib.Omega.{arith}
-use native.Mathlib.Nat.{add-comm}
+use borrow.Author.Tests.{eq-eqb, eqb-true}
 use Rattle.wire.specs.Bytes.{splice, big}
 use Rattle.wire.specs.First.{first}
 use Rattle.wire.proofs.ByteLaws.{splice-start, splice-append}

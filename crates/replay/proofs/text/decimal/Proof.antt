@@ -1,13 +1,11 @@
-use borrow.Author.Needs.{needs}
+-- `replay::text::decimal` is safe and ends: the value stays at most `most`.
+-- Assumes nothing.
+use Prim.Native.Nat.{_-_, _≤_}
+use lib.ListN.{length}
 use native.Mathlib.Omega.{arith}
-use lib.ListN.{length, length-set}
-use mathlib.Core.Path.{_≡_, refl, _∙_}
-use Prim.Native.Nat.{_-_, _*_, _≤_}
+use borrow.Author.Needs.{needs}
 use Rattle.replay.proofs.text.decimal.Statement.{statement}
 use Rattle.replay.proofs.text.decimal.Tie as tie
-use Rattle.replay.proofs.text.decimal.Reads as reads
-use Rattle.replay.proofs.text.decimal.Lts as lts
-use Rattle.replay.proofs.text.decimal_digit.Reads as decimal-digit-reads
 
 abbrev Inv-loop : tie.InvT-loop
 Inv-loop text most value₀ i₀ value i = value ≤ most
@@ -15,55 +13,42 @@ Inv-loop text most value₀ i₀ value i = value ≤ most
 abbrev μ-loop : tie.MeasureT-loop
 μ-loop text most value₀ i₀ value i = length text - i
 
--- src/text.rt:62:9
 returns : tie.Need-returns Inv-loop μ-loop
 returns c = search needs
 
--- src/text.rt:66:5
 loop-holds : tie.Need-loop-holds Inv-loop μ-loop
 loop-holds c = search needs
 
--- src/text.rt:67:35
 shared-slice-read-decimal-digit : tie.Need-shared-slice-read-decimal-digit Inv-loop μ-loop
 shared-slice-read-decimal-digit c = search needs
 
--- src/text.rt:67:13
 decimal-digit-requires : tie.Need-decimal-digit-requires Inv-loop μ-loop
 decimal-digit-requires c κs = search needs
 
--- src/text.rt:69:13
 returns-2 : tie.Need-returns-2 Inv-loop μ-loop
 returns-2 c = search needs
 
--- src/text.rt:72:13
 returns-3 : tie.Need-returns-3 Inv-loop μ-loop
 returns-3 c = search needs
 
--- src/text.rt:75:13
 returns-4 : tie.Need-returns-4 Inv-loop μ-loop
 returns-4 c = search needs
 
--- src/text.rt:77:17
 mul-value : tie.Need-mul-value Inv-loop μ-loop
 mul-value c = omega arith
 
--- src/text.rt:77:17
 add-value : tie.Need-add-value Inv-loop μ-loop
 add-value c = omega arith
 
--- src/text.rt:78:9
 add-i : tie.Need-add-i Inv-loop μ-loop
 add-i c = omega arith
 
--- src/text.rt:66:5
 loop-less : tie.Need-loop-less Inv-loop μ-loop
 loop-less c = omega arith
 
--- src/text.rt:66:5
 loop-again : tie.Need-loop-again Inv-loop μ-loop
 loop-again c = omega arith
 
--- src/text.rt:60:1
 returns-5 : tie.Need-returns-5 Inv-loop μ-loop
 returns-5 c = search needs
 

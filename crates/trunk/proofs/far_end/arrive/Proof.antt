@@ -1,87 +1,69 @@
-use Rattle.trunk.specs.declared.Arrival.the-variants.{Refused, Delivered, Repeat, Early}
-use Rattle.station.specs.declared.Heard.{Heard}
-use Rattle.station.specs.Hearing.{heard}
-use Rattle.pdu.proofs.ReadingLaws.{part-rest}
+-- `arrive` meets its contract: refused, it leaves the far end and both buffers as they were; else it is the next number, a repeat or early, and
+-- each writes its reply at the buffer's start. The rules passed give room for both (`arrival-fits`).
+-- Assumes nothing.
+use Prim.Native.Nat.{ℕ, _+_, _≤_}
+use mathlib.Core.List.{List}
+use mathlib.Core.Path.{sym, ap, ap₂, _∙_}
+use lib.ListN.{length, length-take, length-drop}
+use denote.Ref.{now}
+use native.Mathlib.Omega.{arith}
+use borrow.Author.Tests.{eq-eqb, ne-eqb, lt-ltb, le-ltb}
+use borrow.Author.Needs.{needs}
 use Rattle.wire.proofs.ByteLaws.{splice-start}
 use Rattle.wire.specs.First.{first}
 use Rattle.wire.specs.Bytes.{splice}
-use lib.ListN.{length, length-take, length-drop}
-use mathlib.Core.List.{List}
-use Prim.Native.Nat.{ℕ, _+_, _≤_}
+use Rattle.pdu.proofs.ReadingLaws.{part-rest}
+use Rattle.trunk.specs.declared.Arrival.the-variants.{Refused, Delivered}
+use Rattle.station.specs.declared.Heard.{Heard}
+use Rattle.station.specs.Hearing.{heard}
 use Rattle.trunk.proofs.EndLaws.{arrival-fits}
 use Rattle.trunk.specs.Far.{arrivalRules, arrived, replyAfter, outputAfter}
 use Rattle.trunk.specs.Record.{recordOf, replyOf, numberIn, carriedIn}
-use native.Mathlib.Omega.{arith}
-use borrow.Author.Tests.{eq-eqb, ne-eqb, lt-ltb, le-ltb, le-leb, lt-leb}
-use denote.Ref.{now}
-use mathlib.Core.Path.{_≡_, refl, sym, ap, ap₂, _∙_}
-use borrow.Author.Needs.{needs}
 use Rattle.trunk.proofs.far_end.arrive.Statement.{statement}
 use Rattle.trunk.proofs.far_end.arrive.Tie as tie
-use Rattle.trunk.proofs.far_end.arrive.Reads as reads
-use Rattle.trunk.proofs.far_end.arrive.Lts as lts
-use Rattle.station.proofs.hear.Reads as hear-reads
-use Rattle.trunk.proofs.far_end.put_reply.Reads as put-reply-reads
-use Rattle.trunk.proofs.records.arrival_refusal.Reads as arrival-refusal-reads
-use Rattle.wire.proofs.copy.Reads as copy-reads
-use Rattle.wire.proofs.u32_at.Reads as u32-at-reads
 
--- src/far_end.rt:30:9
 arrival-refusal-requires : tie.Need-arrival-refusal-requires
 arrival-refusal-requires c κs = search needs
 
--- src/far_end.rt:32:9
 returns : tie.Need-returns
 unfolding arrived replyAfter outputAfter
 returns c =
     let no = ne-eqb (first (arrivalRules (now (c .before .before .before .before .before .args .received)) (length (now (c .before .before .before .before .before .args .reply))) (length (now (c .before .before .before .before .before .args .out))))) 0 (λ e. c .if1 .taken (c .before .arrival-refusal .ensures ∙ e)) in
     (rw no (ap (λ (n : ℕ). record { far = (c .before .before .before .before .before .args .far); answer = Refused n }) (c .before .arrival-refusal .ensures)), (rw no, rw no))
 
--- src/far_end.rt:37:9
 u32-at-requires : tie.Need-u32-at-requires
 u32-at-requires c κs = (arrival-fits (now (c .before .before .before .before .before .args .received)) (length (now (c .before .before .before .before .before .args .reply))) (length (now (c .before .before .before .before .before .args .out))) (sym (c .before .arrival-refusal .ensures) ∙ c .if1 .left)) .head
 
--- src/far_end.rt:41:19
 sub-pdu : tie.Need-sub-pdu
 sub-pdu c = omega (arith, (arrival-fits (now (c .before .before .before .before .before .before .before .before .args .received)) (length (now (c .before .before .before .before .before .before .before .before .args .reply))) (length (now (c .before .before .before .before .before .before .before .before .args .out))) (sym (c .before .before .before .before .arrival-refusal .ensures) ∙ c .before .before .before .if1 .left)) .head)
 
--- src/far_end.rt:41:19
 part-pdu-start : tie.Need-part-pdu-start
 part-pdu-start c = omega (arith, (arrival-fits (now (c .before .before .before .before .before .before .before .before .args .received)) (length (now (c .before .before .before .before .before .before .before .before .args .reply))) (length (now (c .before .before .before .before .before .before .before .before .args .out))) (sym (c .before .before .before .before .arrival-refusal .ensures) ∙ c .before .before .before .if1 .left)) .head)
 
--- src/far_end.rt:41:19
 part-pdu-end : tie.Need-part-pdu-end
 part-pdu-end c = search needs
 
--- src/far_end.rt:42:9
 copy-requires : tie.Need-copy-requires
 copy-requires c κs = simp (length-take, length-drop) (omega (arith, (arrival-fits (now (c .before .before .before .before .before .before .before .before .before .before .args .received)) (length (now (c .before .before .before .before .before .before .before .before .before .before .args .reply))) (length (now (c .before .before .before .before .before .before .before .before .before .before .args .out))) (sym (c .before .before .before .before .before .before .arrival-refusal .ensures) ∙ c .before .before .before .before .before .if1 .left)) .size, (arrival-fits (now (c .before .before .before .before .before .before .before .before .before .before .args .received)) (length (now (c .before .before .before .before .before .before .before .before .before .before .args .reply))) (length (now (c .before .before .before .before .before .before .before .before .before .before .args .out))) (sym (c .before .before .before .before .before .before .arrival-refusal .ensures) ∙ c .before .before .before .before .before .if1 .left)) .output))
 
--- src/far_end.rt:43:26
 add-put-reply : tie.Need-add-put-reply
 add-put-reply c = omega (arith, c .before .before .before .before .before .before .before .before .u32-at .ok, c .before .before .before .before .before .before .before .before .u32-at .ensures, c .before .before .before .before .before .before .if2 .taken, (arrival-fits (now (c .before .before .before .before .before .before .before .before .before .before .before .before .before .before .args .received)) (length (now (c .before .before .before .before .before .before .before .before .before .before .before .before .before .before .args .reply))) (length (now (c .before .before .before .before .before .before .before .before .before .before .before .before .before .before .args .out))) (sym (c .before .before .before .before .before .before .before .before .before .before .arrival-refusal .ensures) ∙ c .before .before .before .before .before .before .before .before .before .if1 .left)) .number)
 
--- src/far_end.rt:43:9
 put-reply-requires : tie.Need-put-reply-requires
 put-reply-requires c κs = (arrival-fits (now (c .before .before .before .before .before .before .before .before .before .before .before .before .before .before .args .received)) (length (now (c .before .before .before .before .before .before .before .before .before .before .before .before .before .before .args .reply))) (length (now (c .before .before .before .before .before .before .before .before .before .before .before .before .before .before .args .out))) (sym (c .before .before .before .before .before .before .before .before .before .before .arrival-refusal .ensures) ∙ c .before .before .before .before .before .before .before .before .before .if1 .left)) .reply
 
--- src/far_end.rt:44:13
 hear-requires : tie.Need-hear-requires
 hear-requires c κs = search needs
 
--- src/far_end.rt:48:24
 add-t24 : tie.Need-add-t24
 add-t24 c = omega (arith, c .before .before .before .before .before .before .before .before .before .before .before .before .before .u32-at .ok, c .before .before .before .before .before .before .before .before .before .before .before .before .before .u32-at .ensures, c .before .before .before .before .before .before .before .before .before .before .before .if2 .taken, (arrival-fits (now (c .before .before .before .before .before .before .before .before .before .before .before .before .before .before .before .before .before .before .before .args .received)) (length (now (c .before .before .before .before .before .before .before .before .before .before .before .before .before .before .before .before .before .before .before .args .reply))) (length (now (c .before .before .before .before .before .before .before .before .before .before .before .before .before .before .before .before .before .before .before .args .out))) (sym (c .before .before .before .before .before .before .before .before .before .before .before .before .before .before .before .arrival-refusal .ensures) ∙ c .before .before .before .before .before .before .before .before .before .before .before .before .before .before .if1 .left)) .number)
 
--- src/far_end.rt:46:9
 same-length : tie.Need-same-length
 same-length c = search needs
 
--- src/far_end.rt:46:9
 same-length-2 : tie.Need-same-length-2
 same-length-2 c = search needs
 
--- src/far_end.rt:46:9
 returns-2 : tie.Need-returns-2
 unfolding arrived replyAfter outputAfter recordOf
 returns-2 c =
@@ -99,15 +81,12 @@ returns-2 c =
       ),
     )
 
--- src/far_end.rt:57:5
 put-reply-requires-2 : tie.Need-put-reply-requires-2
 put-reply-requires-2 c κs = (arrival-fits (now (c .before .before .before .before .before .before .before .before .before .args .received)) (length (now (c .before .before .before .before .before .before .before .before .before .args .reply))) (length (now (c .before .before .before .before .before .before .before .before .before .args .out))) (sym (c .before .before .before .before .before .arrival-refusal .ensures) ∙ c .before .before .before .before .if1 .left)) .reply
 
--- src/far_end.rt:59:9
 same-length-3 : tie.Need-same-length-3
 same-length-3 c = search needs
 
--- src/far_end.rt:59:9
 returns-3 : tie.Need-returns-3
 unfolding arrived replyAfter outputAfter recordOf
 returns-3 c =
@@ -116,11 +95,9 @@ returns-3 c =
     let side = lt-ltb (numberIn (now (c .before .before .before .before .before .before .before .before .before .before .before .before .before .args .received))) ((c .before .before .before .before .before .before .before .before .before .before .before .before .before .args .far) .count) (rw (c .before .before .before .before .before .before .before .u32-at .ensures) at (c .if3 .taken)) in
     (rw (yes, away, side), (rw (yes, away, side) (c .before .before .before .put-reply2 .ensures ∙ splice-start (replyOf ((c .before .before .before .before .before .before .before .before .before .before .before .before .before .args .far) .count)) (now (c .before .before .before .before .before .before .before .before .before .before .before .before .before .args .reply)) ((arrival-fits (now (c .before .before .before .before .before .before .before .before .before .before .before .before .before .args .received)) (length (now (c .before .before .before .before .before .before .before .before .before .before .before .before .before .args .reply))) (length (now (c .before .before .before .before .before .before .before .before .before .before .before .before .before .args .out))) (sym (c .before .before .before .before .before .before .before .before .before .arrival-refusal .ensures) ∙ c .before .before .before .before .before .before .before .before .if1 .left)) .reply)), rw (yes, away)))
 
--- src/far_end.rt:25:1
 same-length-4 : tie.Need-same-length-4
 same-length-4 c = search needs
 
--- src/far_end.rt:25:1
 returns-4 : tie.Need-returns-4
 unfolding arrived replyAfter outputAfter recordOf
 returns-4 c =

@@ -1,88 +1,70 @@
-use Rattle.trunk.specs.declared.Offer.the-variants.{Refused, Taken}
+-- `offer` meets its contract: refused, it leaves all as it was; else the row lent on comes back as a splice of the store (`part-splice`). The
+-- rules passed give the store's size, the kind and the number's room (`offer-fits`).
+-- Assumes nothing.
+use Prim.Native.Nat.{ℕ, _+_, _-_, _≤_}
+use mathlib.Core.List.{List, _++_}
+use mathlib.Core.Path.{sym, ap, _∙_}
+use lib.ListN.{length, take, drop, length-take, length-drop}
+use denote.Ref.{now}
+use native.Mathlib.Omega.{arith}
+use borrow.Author.Tests.{eq-eqb, ne-eqb}
+use borrow.Author.Needs.{needs}
+use Rattle.wire.specs.First.{first}
+use Rattle.wire.specs.Bytes.{splice}
 use Rattle.pdu.specs.declared.Reading.{Reading}
 use Rattle.pdu.specs.Writing.{writtenForm}
 use Rattle.pdu.specs.Reading.{reading}
-use Rattle.wire.specs.First.{first}
-use Rattle.wire.specs.Bytes.{splice}
-use lib.ListN.{length, take, drop, length-take, length-drop}
-use mathlib.Core.List.{List, _++_}
-use Prim.Native.Nat.{ℕ, _+_, _-_, _≤_}
-use Rattle.trunk.proofs.WriteLaws.{part-splice, carried-short, record-short}
+use Rattle.trunk.specs.declared.Offer.the-variants.{Refused}
+use Rattle.trunk.proofs.WriteLaws.{part-splice, record-short}
 use Rattle.trunk.proofs.EndLaws.{offer-fits, carried-byte}
 use Rattle.trunk.specs.Record.{recordOf}
 use Rattle.trunk.specs.Kinds.{kindOf}
 use Rattle.trunk.specs.Near.{offerRulesOf, offerRules, offered, storeAfter}
-use native.Mathlib.Omega.{arith}
-use borrow.Author.Tests.{eq-eqb, ne-eqb, lt-ltb, le-ltb, le-leb, lt-leb}
-use denote.Ref.{now}
-use mathlib.Core.Path.{_≡_, refl, sym, ap, ap₂, _∙_}
-use borrow.Author.Needs.{needs}
 use Rattle.trunk.proofs.near_end.offer.Statement.{statement}
 use Rattle.trunk.proofs.near_end.offer.Tie as tie
-use Rattle.trunk.proofs.near_end.offer.Reads as reads
-use Rattle.trunk.proofs.near_end.offer.Lts as lts
-use Rattle.pdu.proofs.read.Reads as read-reads
-use Rattle.trunk.proofs.near_end.offer_refusal.Reads as offer-refusal-reads
-use Rattle.trunk.proofs.near_end.put_record.Reads as put-record-reads
-use Rattle.trunk.proofs.near_end.row_start.Reads as row-start-reads
-use Rattle.trunk.proofs.records.kind_of.Reads as kind-of-reads
 
--- src/near_end.rt:98:9
 read-requires : tie.Need-read-requires
 read-requires c κs = search needs
 
--- src/near_end.rt:99:9
 offer-refusal-requires : tie.Need-offer-refusal-requires
 offer-refusal-requires c κs = search needs
 
--- src/near_end.rt:101:9
 returns : tie.Need-returns
 unfolding offered storeAfter
 returns c =
     let no = ne-eqb (first (offerRules (c .before .before .before .before .before .args .near) (now (c .before .before .before .before .before .args .store)) (now (c .before .before .before .before .before .args .datagram)))) 0 (λ e. c .if1 .taken ((c .before .offer-refusal .ensures ∙ ap (λ (a : Reading). first (offerRulesOf (c .before .before .before .before .before .args .near) (length (now (c .before .before .before .before .before .args .store))) a)) (c .before .before .read .ensures)) ∙ e)) in
     (rw no (ap (λ (n : ℕ). record { near = (c .before .before .before .before .before .args .near); answer = Refused n }) (c .before .offer-refusal .ensures ∙ ap (λ (a : Reading). first (offerRulesOf (c .before .before .before .before .before .args .near) (length (now (c .before .before .before .before .before .args .store))) a)) (c .before .before .read .ensures))), rw no)
 
--- src/near_end.rt:107:9
 row-start-requires : tie.Need-row-start-requires
 row-start-requires c κs = search needs
 
--- src/near_end.rt:108:16
 kind-of-requires : tie.Need-kind-of-requires
 kind-of-requires c κs = search needs
 
--- src/near_end.rt:108:16
 cast-kind : tie.Need-cast-kind
 cast-kind c = omega (arith, (c .kind-of .ensures ∙ ap kindOf (c .before .before .before .before .read .ensures)), carried-byte (now (c .before .before .before .before .before .before .before .args .datagram)) ((offer-fits (c .before .before .before .before .before .before .before .args .near) (length (now (c .before .before .before .before .before .before .before .args .store))) (reading (now (c .before .before .before .before .before .before .before .args .datagram))) (sym (c .before .before .before .offer-refusal .ensures ∙ ap (λ (a : Reading). first (offerRulesOf (c .before .before .before .before .before .before .before .args .near) (length (now (c .before .before .before .before .before .before .before .args .store))) a)) (c .before .before .before .before .read .ensures)) ∙ c .before .before .if1 .left)) .carried))
 
--- src/near_end.rt:109:34
 add-put-record : tie.Need-add-put-record
 add-put-record c = search needs
 
--- src/near_end.rt:109:16
 sub-put-record : tie.Need-sub-put-record
 sub-put-record c = search needs
 
--- src/near_end.rt:109:16
 part-put-record-start : tie.Need-part-put-record-start
 part-put-record-start c = search needs
 
--- src/near_end.rt:109:16
 part-put-record-end : tie.Need-part-put-record-end
 part-put-record-end c = omega (arith, c .before .row-start .ensures .1, (offer-fits (c .before .before .before .before .before .before .before .args .near) (length (now (c .before .before .before .before .before .before .before .args .store))) (reading (now (c .before .before .before .before .before .before .before .args .datagram))) (sym (c .before .before .before .offer-refusal .ensures ∙ ap (λ (a : Reading). first (offerRulesOf (c .before .before .before .before .before .before .before .args .near) (length (now (c .before .before .before .before .before .before .before .args .store))) a)) (c .before .before .before .before .read .ensures)) ∙ c .before .before .if1 .left)) .store)
 
--- src/near_end.rt:109:5
 put-record-requires : tie.Need-put-record-requires
 put-record-requires c κs = (simp (length-take, length-drop) (omega (arith, c .before .before .row-start .ensures .1, (offer-fits (c .before .before .before .before .before .before .before .before .args .near) (length (now (c .before .before .before .before .before .before .before .before .args .store))) (reading (now (c .before .before .before .before .before .before .before .before .args .datagram))) (sym (c .before .before .before .before .offer-refusal .ensures ∙ ap (λ (a : Reading). first (offerRulesOf (c .before .before .before .before .before .before .before .before .args .near) (length (now (c .before .before .before .before .before .before .before .before .args .store))) a)) (c .before .before .before .before .before .read .ensures)) ∙ c .before .before .before .if1 .left)) .store)), (offer-fits (c .before .before .before .before .before .before .before .before .args .near) (length (now (c .before .before .before .before .before .before .before .before .args .store))) (reading (now (c .before .before .before .before .before .before .before .before .args .datagram))) (sym (c .before .before .before .before .offer-refusal .ensures ∙ ap (λ (a : Reading). first (offerRulesOf (c .before .before .before .before .before .before .before .before .args .near) (length (now (c .before .before .before .before .before .before .before .before .args .store))) a)) (c .before .before .before .before .before .read .ensures)) ∙ c .before .before .before .if1 .left)) .carried)
 
--- src/near_end.rt:112:23
 add-t18 : tie.Need-add-t18
 add-t18 c = omega (arith, (offer-fits (c .before .before .before .before .before .before .before .before .before .before .before .args .near) (length (now (c .before .before .before .before .before .before .before .before .before .before .before .args .store))) (reading (now (c .before .before .before .before .before .before .before .before .before .before .before .args .datagram))) (sym (c .before .before .before .before .before .before .before .offer-refusal .ensures ∙ ap (λ (a : Reading). first (offerRulesOf (c .before .before .before .before .before .before .before .before .before .before .before .args .near) (length (now (c .before .before .before .before .before .before .before .before .before .before .before .args .store))) a)) (c .before .before .before .before .before .before .before .before .read .ensures)) ∙ c .before .before .before .before .before .before .if1 .left)) .number, c .before .before .before .before .before .before .before .before .before .before .before .good)
 
--- src/near_end.rt:94:1
 same-length : tie.Need-same-length
 same-length c = search needs
 
--- src/near_end.rt:94:1
 returns-2 : tie.Need-returns-2
 unfolding offered storeAfter
 returns-2 c =

@@ -1,32 +1,25 @@
+-- `offer_refusal` meets its contract: at each return the tests on the way say that its rule is the first broken one, or that none is.
+-- Assumes nothing.
+use Prim.Native.Nat.{_-_}
+use mathlib.Core.Path.{sym, _∙_}
+use borrow.Author.Tests.{eq-eqb, ne-eqb, le-leb, lt-leb}
+use borrow.Author.Needs.{needs}
 use Rattle.pdu.proofs.ReadingLaws.{differs, agrees}
 use Rattle.pdu.specs.Reading.{numberOf}
-use Prim.Native.Nat.{_-_}
 use Rattle.trunk.specs.Kinds.{kindOf}
 use Rattle.trunk.specs.Near.{offerRulesOf}
-use borrow.Author.Tests.{eq-eqb, ne-eqb, lt-ltb, le-ltb, le-leb, lt-leb}
-use denote.Ref.{now}
-use mathlib.Core.Path.{_≡_, refl, sym, ap, ap₂, _∙_}
-use borrow.Author.Needs.{needs}
 use Rattle.trunk.proofs.near_end.offer_refusal.Statement.{statement}
 use Rattle.trunk.proofs.near_end.offer_refusal.Tie as tie
-use Rattle.trunk.proofs.near_end.offer_refusal.Reads as reads
-use Rattle.trunk.proofs.near_end.offer_refusal.Lts as lts
-use Rattle.pdu.proofs.number.Reads as number-reads
-use Rattle.trunk.proofs.near_end.unacknowledged.Reads as unacknowledged-reads
-use Rattle.trunk.proofs.records.kind_of.Reads as kind-of-reads
 
--- src/near_end.rt:38:9
 returns : tie.Need-returns
 unfolding offerRulesOf
 returns c =
     rw
     (differs (c .before .args .store-length) 1536 (c .if1 .taken))
 
--- src/near_end.rt:40:9
 number-requires : tie.Need-number-requires
 number-requires c κs = search needs
 
--- src/near_end.rt:42:9
 returns-2 : tie.Need-returns-2
 unfolding offerRulesOf
 returns-2 c =
@@ -35,11 +28,9 @@ returns-2 c =
       differs (numberOf (c .before .before .before .args .answer)) 0 (λ e. c .if2 .taken (c .before .number .ensures ∙ e)),
     ) (c .before .number .ensures)
 
--- src/near_end.rt:44:8
 kind-of-requires : tie.Need-kind-of-requires
 kind-of-requires c κs = search needs
 
--- src/near_end.rt:45:9
 returns-3 : tie.Need-returns-3
 unfolding offerRulesOf
 returns-3 c =
@@ -49,7 +40,6 @@ returns-3 c =
       eq-eqb (kindOf (c .before .before .before .before .before .args .answer)) 256 (sym (c .before .kind-of .ensures) ∙ c .if3 .taken),
     )
 
--- src/near_end.rt:48:9
 returns-4 : tie.Need-returns-4
 unfolding offerRulesOf
 returns-4 c =
@@ -60,11 +50,9 @@ returns-4 c =
       eq-eqb (c .before .before .before .before .before .before .before .args .near .accepted) 4294967295 (c .if4 .taken),
     )
 
--- src/near_end.rt:50:8
 unacknowledged-requires : tie.Need-unacknowledged-requires
 unacknowledged-requires c κs = search needs
 
--- src/near_end.rt:51:9
 returns-5 : tie.Need-returns-5
 unfolding offerRulesOf
 returns-5 c =
@@ -76,7 +64,6 @@ returns-5 c =
       le-leb 8 (c .before .before .before .before .before .before .before .before .before .args .near .accepted - c .before .before .before .before .before .before .before .before .before .args .near .acknowledged) (rw (c .before .unacknowledged .ensures) at (c .if5 .taken)),
     )
 
--- src/near_end.rt:34:1
 returns-6 : tie.Need-returns-6
 unfolding offerRulesOf
 returns-6 c =

@@ -1,50 +1,40 @@
-use Rattle.pdu.specs.Writing.{writtenForm}
-use Rattle.wire.specs.Bytes.{splice, big}
-use lib.ListN.{length, take, drop}
-use mathlib.Core.List.{List, _++_}
+-- `put_record` meets its contract: the part lent on comes back as a splice of the row (`part-splice`), and head and PDU side by side are the
+-- record (`record-splice`).
+-- Assumes nothing.
 use Prim.Native.Nat.{_-_, ℕ}
-use Rattle.trunk.proofs.WriteLaws.{part-splice, carried-short, record-splice}
-use native.Mathlib.Omega.{arith}
+use mathlib.Core.List.{List, _++_}
+use mathlib.Core.Path.{_≡_, ap, _∙_}
+use lib.ListN.{length, take, drop}
 use denote.Ref.{now}
-use mathlib.Core.Path.{_≡_, refl, sym, ap, ap₂, _∙_}
+use native.Mathlib.Omega.{arith}
 use borrow.Author.Needs.{needs}
+use Rattle.wire.specs.Bytes.{splice, big}
+use Rattle.pdu.specs.Writing.{writtenForm}
+use Rattle.trunk.proofs.WriteLaws.{part-splice, carried-short, record-splice}
 use Rattle.trunk.proofs.near_end.put_record.Statement.{statement}
 use Rattle.trunk.proofs.near_end.put_record.Tie as tie
-use Rattle.trunk.proofs.near_end.put_record.Reads as reads
-use Rattle.trunk.proofs.near_end.put_record.Lts as lts
-use Rattle.trunk.proofs.near_end.put_pdu.Reads as put-pdu-reads
-use Rattle.wire.proofs.put_u32.Reads as put-u32-reads
-use Rattle.wire.proofs.put_u8.Reads as put-u8-reads
 
--- src/near_end.rt:88:5
 put-u8-requires : tie.Need-put-u8-requires
 put-u8-requires c κs = search needs
 
--- src/near_end.rt:89:5
 put-u32-requires : tie.Need-put-u32-requires
 put-u32-requires c κs = search needs
 
--- src/near_end.rt:90:13
 sub-put-pdu : tie.Need-sub-put-pdu
 sub-put-pdu c = search needs
 
--- src/near_end.rt:90:13
 part-put-pdu-start : tie.Need-part-put-pdu-start
 part-put-pdu-start c = search needs
 
--- src/near_end.rt:90:13
 part-put-pdu-end : tie.Need-part-put-pdu-end
 part-put-pdu-end c = search needs
 
--- src/near_end.rt:90:5
 put-pdu-requires : tie.Need-put-pdu-requires
 put-pdu-requires c κs = search needs
 
--- src/near_end.rt:84:1
 same-length : tie.Need-same-length
 same-length c = search needs
 
--- src/near_end.rt:84:1
 returns : tie.Need-returns
 returns c =
     let long : length (c .before .before .before .before .before .before .put-u32 .last .0) ≡ length (now (c .before .before .before .before .before .before .before .before .before .before .before .before .before .before .args .row)) = c .before .before .before .before .before .before .put-u32 .kept .0 ∙ c .before .before .before .before .before .before .before .before .before .before .put-u8 .kept .0 in

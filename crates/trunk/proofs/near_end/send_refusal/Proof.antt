@@ -1,41 +1,31 @@
-use Rattle.pdu.proofs.ReadingLaws.{differs, agrees}
-use Rattle.wire.specs.Bytes.{num}
-use lib.ListN.{length}
-use mathlib.Core.Bool.{not}
+-- `send_refusal` meets its contract: at each return the tests on the way say that its rule is the first broken one, or that none is.
+-- Assumes nothing.
 use Prim.Native.Nat.{ℕ}
+use mathlib.Core.Bool.{not}
+use mathlib.Core.Path.{sym, ap, _∙_}
+use lib.ListN.{length}
+use denote.Ref.{now}
+use borrow.Author.Tests.{eq-eqb, ne-eqb, lt-ltb, le-ltb}
+use borrow.Author.Needs.{needs}
+use Rattle.wire.specs.Bytes.{num}
+use Rattle.pdu.proofs.ReadingLaws.{differs, agrees}
 use Rattle.trunk.specs.Kinds.{load, isUnknown, recordSize}
 use Rattle.trunk.specs.Near.{sendRules, rowKind}
-use borrow.Author.Tests.{eq-eqb, ne-eqb, lt-ltb, le-ltb, le-leb, lt-leb}
-use denote.Ref.{now}
-use mathlib.Core.Path.{_≡_, refl, sym, ap, ap₂, _∙_}
-use borrow.Author.Needs.{needs}
 use Rattle.trunk.proofs.near_end.send_refusal.Statement.{statement}
 use Rattle.trunk.proofs.near_end.send_refusal.Tie as tie
-use Rattle.trunk.proofs.near_end.send_refusal.Reads as reads
-use Rattle.trunk.proofs.near_end.send_refusal.Lts as lts
-use Rattle.trunk.proofs.near_end.row_start.Reads as row-start-reads
-use Rattle.trunk.proofs.records.is_unknown.Reads as is-unknown-reads
-use Rattle.trunk.proofs.records.record_size.Reads as record-size-reads
-use Rattle.wire.proofs.both.Reads as both-reads
-use Rattle.wire.proofs.no.Reads as no-reads
-use Rattle.wire.proofs.u8_at.Reads as u8-at-reads
 
--- src/near_end.rt:124:9
 returns : tie.Need-returns
 unfolding sendRules
 returns c =
     rw
     (differs (length (now (c .before .before .args .store))) 1536 (c .if1 .taken))
 
--- src/near_end.rt:126:17
 both-requires : tie.Need-both-requires
 both-requires c κs = search needs
 
--- src/near_end.rt:126:8
 no-requires : tie.Need-no-requires
 no-requires c κs = search needs
 
--- src/near_end.rt:127:9
 returns-2 : tie.Need-returns-2
 unfolding sendRules
 returns-2 c =
@@ -44,19 +34,15 @@ returns-2 c =
       sym (c .before .no .ensures ∙ ap not (c .before .before .both .ensures)) ∙ c .if2 .taken,
     )
 
--- src/near_end.rt:129:35
 row-start-requires : tie.Need-row-start-requires
 row-start-requires c κs = search needs
 
--- src/near_end.rt:129:9
 u8-at-requires : tie.Need-u8-at-requires
 u8-at-requires c κs = search needs
 
--- src/near_end.rt:130:8
 is-unknown-requires : tie.Need-is-unknown-requires
 is-unknown-requires c κs = search needs
 
--- src/near_end.rt:131:9
 returns-3 : tie.Need-returns-3
 unfolding sendRules
 returns-3 c =
@@ -66,7 +52,6 @@ returns-3 c =
       sym (c .before .is-unknown .ensures ∙ ap (λ (k : ℕ). isUnknown (load k)) (c .before .before .u8-at .ensures ∙ ap (λ (n : ℕ). num 1 n (now (c .before .before .before .before .before .before .before .before .before .before .before .args .store))) (c .before .before .before .row-start .ensures .0))) ∙ c .if3 .taken,
     )
 
--- src/near_end.rt:134:9
 returns-4 : tie.Need-returns-4
 unfolding sendRules
 returns-4 c =
@@ -77,11 +62,9 @@ returns-4 c =
       eq-eqb (rowKind (now (c .before .before .before .before .before .before .before .before .before .before .before .before .args .store)) (c .before .before .before .before .before .before .before .before .before .before .before .before .args .i)) 32 (sym (c .before .before .before .u8-at .ensures ∙ ap (λ (n : ℕ). num 1 n (now (c .before .before .before .before .before .before .before .before .before .before .before .before .args .store))) (c .before .before .before .before .row-start .ensures .0)) ∙ c .if4 .taken),
     )
 
--- src/near_end.rt:136:15
 record-size-requires : tie.Need-record-size-requires
 record-size-requires c κs = search needs
 
--- src/near_end.rt:137:9
 returns-5 : tie.Need-returns-5
 unfolding sendRules
 returns-5 c =
@@ -93,7 +76,6 @@ returns-5 c =
       ne-eqb (rowKind (now (c .before .before .before .before .before .before .before .before .before .before .before .before .before .before .args .store)) (c .before .before .before .before .before .before .before .before .before .before .before .before .before .before .args .i)) 32 (λ e. c .before .before .if4 .left ((c .before .before .before .before .before .u8-at .ensures ∙ ap (λ (n : ℕ). num 1 n (now (c .before .before .before .before .before .before .before .before .before .before .before .before .before .before .args .store))) (c .before .before .before .before .before .before .row-start .ensures .0)) ∙ e)),
     )
 
--- src/near_end.rt:120:1
 returns-6 : tie.Need-returns-6
 unfolding sendRules
 returns-6 c =

@@ -1,40 +1,32 @@
-use Rattle.trunk.specs.declared.Reply.the-variants.{Refused, Acknowledged}
-use Rattle.wire.specs.First.{first}
+-- `take_reply` meets its contract: refused, it changes nothing; else the acknowledged count is the later of the two.
+-- Assumes nothing.
 use Prim.Native.Nat.{ℕ}
+use mathlib.Core.Path.{sym, ap, _∙_}
+use denote.Ref.{now}
+use borrow.Author.Tests.{eq-eqb, ne-eqb}
+use borrow.Author.Needs.{needs}
+use Rattle.wire.specs.First.{first}
+use Rattle.trunk.specs.declared.Reply.the-variants.{Refused, Acknowledged}
 use Rattle.trunk.proofs.KindLaws.{reply-head}
 use Rattle.trunk.specs.Near.{replyRules, replied, acknowledgedAfter}
-use borrow.Author.Tests.{eq-eqb, ne-eqb, lt-ltb, le-ltb, le-leb, lt-leb}
-use denote.Ref.{now}
-use mathlib.Core.Path.{_≡_, refl, sym, ap, ap₂, _∙_}
-use borrow.Author.Needs.{needs}
 use Rattle.trunk.proofs.near_end.take_reply.Statement.{statement}
 use Rattle.trunk.proofs.near_end.take_reply.Tie as tie
-use Rattle.trunk.proofs.near_end.take_reply.Reads as reads
-use Rattle.trunk.proofs.near_end.take_reply.Lts as lts
-use Rattle.trunk.proofs.near_end.later.Reads as later-reads
-use Rattle.trunk.proofs.records.reply_refusal.Reads as reply-refusal-reads
-use Rattle.wire.proofs.u32_at.Reads as u32-at-reads
 
--- src/near_end.rt:162:9
 reply-refusal-requires : tie.Need-reply-refusal-requires
 reply-refusal-requires c κs = search needs
 
--- src/near_end.rt:164:9
 returns : tie.Need-returns
 unfolding replied
 returns c =
     rw
     (ne-eqb (first (replyRules (c .before .before .before .args .near) (now (c .before .before .before .args .received)))) 0 (λ e. c .if1 .taken (c .before .reply-refusal .ensures ∙ e))) (ap (λ (n : ℕ). record { near = c .before .before .before .args .near; answer = Refused n }) (c .before .reply-refusal .ensures))
 
--- src/near_end.rt:169:42
 u32-at-requires : tie.Need-u32-at-requires
 u32-at-requires c κs = reply-head (c .before .before .before .args .near) (now (c .before .before .before .args .received)) (sym (c .before .reply-refusal .ensures) ∙ c .if1 .left)
 
--- src/near_end.rt:169:9
 later-requires : tie.Need-later-requires
 later-requires c κs = search needs
 
--- src/near_end.rt:159:1
 returns-2 : tie.Need-returns-2
 unfolding replied
 returns-2 c =

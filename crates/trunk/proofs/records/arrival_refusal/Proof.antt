@@ -1,35 +1,25 @@
+-- `arrival_refusal` meets its contract: at each return the tests on the way say that its rule is the first broken one, or that none is.
+-- Assumes nothing.
+use mathlib.Core.Path.{sym, _∙_}
+use denote.Ref.{now}
+use borrow.Author.Needs.{needs}
 use Rattle.trunk.proofs.KindLaws.{has-head}
 use Rattle.trunk.specs.Far.{arrivalRules}
-use denote.Ref.{now}
-use mathlib.Core.Path.{_≡_, refl, sym, ap, ap₂, _∙_}
-use borrow.Author.Needs.{needs}
 use Rattle.trunk.proofs.records.arrival_refusal.Statement.{statement}
 use Rattle.trunk.proofs.records.arrival_refusal.Tie as tie
-use Rattle.trunk.proofs.records.arrival_refusal.Reads as reads
-use Rattle.trunk.proofs.records.arrival_refusal.Lts as lts
-use Rattle.trunk.proofs.records.is_reply.Reads as is-reply-reads
-use Rattle.trunk.proofs.records.last_of_all.Reads as last-of-all-reads
-use Rattle.trunk.proofs.records.unknown_kind.Reads as unknown-kind-reads
-use Rattle.trunk.proofs.records.wrong_carried.Reads as wrong-carried-reads
-use Rattle.trunk.proofs.records.wrong_size.Reads as wrong-size-reads
-use Rattle.wire.proofs.either.Reads as either-reads
 
--- src/records.rt:167:8
 unknown-kind-requires : tie.Need-unknown-kind-requires
 unknown-kind-requires c κs = search needs
 
--- src/records.rt:168:9
 returns : tie.Need-returns
 unfolding arrivalRules
 returns c =
     rw
     (sym (c .before .unknown-kind .ensures) ∙ c .if1 .taken)
 
--- src/records.rt:170:8
 wrong-size-requires : tie.Need-wrong-size-requires
 wrong-size-requires c κs = search needs
 
--- src/records.rt:171:9
 returns-2 : tie.Need-returns-2
 unfolding arrivalRules
 returns-2 c =
@@ -38,11 +28,9 @@ returns-2 c =
       sym (c .before .wrong-size .ensures) ∙ c .if2 .taken,
     )
 
--- src/records.rt:173:8
 is-reply-requires : tie.Need-is-reply-requires
 is-reply-requires c κs = has-head (now (c .before .before .before .before .before .args .r)) (sym (c .before .wrong-size .ensures) ∙ c .if2 .left)
 
--- src/records.rt:174:9
 returns-3 : tie.Need-returns-3
 unfolding arrivalRules
 returns-3 c =
@@ -52,11 +40,9 @@ returns-3 c =
       sym (c .before .is-reply .ensures) ∙ c .if3 .taken,
     )
 
--- src/records.rt:176:8
 last-of-all-requires : tie.Need-last-of-all-requires
 last-of-all-requires c κs = has-head (now (c .before .before .before .before .before .before .before .args .r)) (sym (c .before .before .before .wrong-size .ensures) ∙ c .before .before .if2 .left)
 
--- src/records.rt:177:9
 returns-4 : tie.Need-returns-4
 unfolding arrivalRules
 returns-4 c =
@@ -67,11 +53,9 @@ returns-4 c =
       sym (c .before .last-of-all .ensures) ∙ c .if4 .taken,
     )
 
--- src/records.rt:179:8
 wrong-carried-requires : tie.Need-wrong-carried-requires
 wrong-carried-requires c κs = has-head (now (c .before .before .before .before .before .before .before .before .before .args .r)) (sym (c .before .before .before .before .before .wrong-size .ensures) ∙ c .before .before .before .before .if2 .left)
 
--- src/records.rt:180:9
 returns-5 : tie.Need-returns-5
 unfolding arrivalRules
 returns-5 c =
@@ -83,11 +67,9 @@ returns-5 c =
       sym (c .before .wrong-carried .ensures) ∙ c .if5 .taken,
     )
 
--- src/records.rt:182:8
 either-requires : tie.Need-either-requires
 either-requires c κs = search needs
 
--- src/records.rt:183:9
 returns-6 : tie.Need-returns-6
 unfolding arrivalRules
 returns-6 c =
@@ -100,7 +82,6 @@ returns-6 c =
       sym (c .before .either .ensures) ∙ c .if6 .taken,
     )
 
--- src/records.rt:164:1
 returns-7 : tie.Need-returns-7
 unfolding arrivalRules
 returns-7 c =

@@ -1,56 +1,44 @@
+-- `check` meets its contract: a refusal number other than 0 is the answer; else the record has a head and is short (`checked-head`, `checked-short`).
+-- Assumes nothing.
+use Prim.Native.Nat.{ℕ}
+use mathlib.Core.Path.{sym, ap, ap₂, _∙_}
+use lib.ListN.{length}
+use denote.Ref.{now}
+use native.Mathlib.Omega.{arith}
+use borrow.Author.Tests.{eq-eqb, ne-eqb}
+use borrow.Author.Needs.{needs}
+use Rattle.wire.specs.First.{first}
 use Rattle.trunk.proofs.EndLaws.{checked-short}
 use Rattle.trunk.specs.declared.Checked.the-variants.{Refused, Reply, Pdu}
-use Rattle.wire.specs.First.{first}
-use lib.ListN.{length}
-use Prim.Native.Nat.{ℕ}
 use Rattle.trunk.proofs.KindLaws.{checked-head}
 use Rattle.trunk.specs.Record.{checkRules, checked}
-use native.Mathlib.Omega.{arith}
-use borrow.Author.Tests.{eq-eqb, ne-eqb, lt-ltb, le-ltb, le-leb, lt-leb}
-use denote.Ref.{now}
-use mathlib.Core.Path.{_≡_, refl, sym, ap, ap₂, _∙_}
-use borrow.Author.Needs.{needs}
 use Rattle.trunk.proofs.records.check.Statement.{statement}
 use Rattle.trunk.proofs.records.check.Tie as tie
-use Rattle.trunk.proofs.records.check.Reads as reads
-use Rattle.trunk.proofs.records.check.Lts as lts
-use Rattle.trunk.proofs.records.check_refusal.Reads as check-refusal-reads
-use Rattle.trunk.proofs.records.is_reply.Reads as is-reply-reads
-use Rattle.wire.proofs.u32_at.Reads as u32-at-reads
-use Rattle.wire.proofs.u8_at.Reads as u8-at-reads
 
--- src/records.rt:192:9
 check-refusal-requires : tie.Need-check-refusal-requires
 check-refusal-requires c κs = search needs
 
--- src/records.rt:194:9
 returns : tie.Need-returns
 unfolding checked
 returns c =
     rw
     (ne-eqb (first (checkRules (now (c .before .before .before .args .received)))) 0 (λ e. c .if1 .taken (c .before .check-refusal .ensures ∙ e))) (ap Refused (c .before .check-refusal .ensures))
 
--- src/records.rt:196:9
 u32-at-requires : tie.Need-u32-at-requires
 u32-at-requires c κs = checked-head (now (c .before .before .before .args .received)) (sym (c .before .check-refusal .ensures) ∙ c .if1 .left)
 
--- src/records.rt:197:8
 is-reply-requires : tie.Need-is-reply-requires
 is-reply-requires c κs = checked-head (now (c .before .before .before .before .args .received)) (sym (c .before .before .check-refusal .ensures) ∙ c .before .if1 .left)
 
--- src/records.rt:200:19
 cast-t8 : tie.Need-cast-t8
 cast-t8 c = omega (arith, checked-short (now (c .before .before .before .before .before .before .args .received)) (sym (c .before .before .before .before .check-refusal .ensures) ∙ c .before .before .before .if1 .left))
 
--- src/records.rt:204:19
 u8-at-requires : tie.Need-u8-at-requires
 u8-at-requires c κs = omega (arith, checked-head (now (c .before .before .before .before .before .before .args .received)) (sym (c .before .before .before .before .check-refusal .ensures) ∙ c .before .before .before .if1 .left))
 
--- src/records.rt:206:19
 cast-t11 : tie.Need-cast-t11
 cast-t11 c = omega (arith, checked-short (now (c .before .before .before .before .before .before .before .args .received)) (sym (c .before .before .before .before .before .check-refusal .ensures) ∙ c .before .before .before .before .if1 .left))
 
--- src/records.rt:189:1
 returns-2 : tie.Need-returns-2
 unfolding checked
 returns-2 c =
@@ -59,7 +47,6 @@ returns-2 c =
       sym (c .before .is-reply .ensures) ∙ c .if2 .taken,
     ) (ap (λ (n : ℕ). Reply n (length (now (c .before .before .before .before .before .before .args .received)))) (c .before .before .u32-at .ensures))
 
--- src/records.rt:189:1
 returns-3 : tie.Need-returns-3
 unfolding checked
 returns-3 c =

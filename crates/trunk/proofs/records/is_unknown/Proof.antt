@@ -1,29 +1,22 @@
-use lib.Dec.{eqb, leb}
+-- `is_unknown` meets its contract: the tests, joined, are those of the table of kinds (`unknown-is`).
+-- Assumes nothing.
 use mathlib.Core.Bool.{Bool, not, _||_}
-use Rattle.trunk.proofs.KindLaws.{unknown-is}
-use denote.Ref.{now}
-use mathlib.Core.Path.{_≡_, refl, sym, ap, ap₂, _∙_}
+use mathlib.Core.Path.{sym, ap, _∙_}
+use lib.Dec.{eqb, leb}
 use borrow.Author.Needs.{needs}
+use Rattle.trunk.proofs.KindLaws.{unknown-is}
 use Rattle.trunk.proofs.records.is_unknown.Statement.{statement}
 use Rattle.trunk.proofs.records.is_unknown.Tie as tie
-use Rattle.trunk.proofs.records.is_unknown.Reads as reads
-use Rattle.trunk.proofs.records.is_unknown.Lts as lts
-use Rattle.wire.proofs.either.Reads as either-reads
-use Rattle.wire.proofs.no.Reads as no-reads
 
--- src/records.rt:28:9
 either-requires : tie.Need-either-requires
 either-requires c κs = search needs
 
--- src/records.rt:26:14
 either-requires-2 : tie.Need-either-requires-2
 either-requires-2 c κs = search needs
 
--- src/records.rt:26:5
 no-requires : tie.Need-no-requires
 no-requires c κs = search needs
 
--- src/records.rt:23:1
 returns : tie.Need-returns
 returns c =
     c .no .ensures

@@ -1,42 +1,34 @@
+-- `record_size` meets its contract: each return is one row of the table of kinds.
+-- Assumes nothing.
+use mathlib.Core.Path.{sym}
 use lib.Dec.{eqb}
 use native.Mathlib.Omega.{arith}
-use Rattle.trunk.proofs.KindLaws.{head-alone}
-use borrow.Author.Tests.{eq-eqb, ne-eqb, lt-ltb, le-ltb, le-leb, lt-leb}
-use denote.Ref.{now}
-use mathlib.Core.Path.{_≡_, refl, sym, ap, ap₂, _∙_}
+use borrow.Author.Tests.{eq-eqb, ne-eqb, le-leb, lt-leb}
 use borrow.Author.Needs.{needs}
+use Rattle.trunk.proofs.KindLaws.{head-alone}
 use Rattle.trunk.proofs.records.record_size.Statement.{statement}
 use Rattle.trunk.proofs.records.record_size.Tie as tie
-use Rattle.trunk.proofs.records.record_size.Reads as reads
-use Rattle.trunk.proofs.records.record_size.Lts as lts
 
--- src/records.rt:37:34
 mul-result : tie.Need-mul-result
 mul-result c = search needs
 
--- src/records.rt:37:29
 add-result : tie.Need-add-result
 add-result c = search needs
 
--- src/records.rt:37:28
 mul-result-2 : tie.Need-mul-result-2
 mul-result-2 c = search needs
 
--- src/records.rt:37:16
 add-result-2 : tie.Need-add-result-2
 add-result-2 c = search needs
 
--- src/records.rt:37:9
 returns : tie.Need-returns
 returns c =
     rw
     (le-leb (c .before .args .kind) 12 (c .if1 .taken)) (omega arith)
 
--- src/records.rt:40:16
 add-result-3 : tie.Need-add-result-3
 add-result-3 c = search needs
 
--- src/records.rt:40:9
 returns-2 : tie.Need-returns-2
 returns-2 c =
     rw (
@@ -44,7 +36,6 @@ returns-2 c =
       eq-eqb (c .before .before .args .kind) 16 (c .if2 .taken),
     )
 
--- src/records.rt:33:1
 returns-3 : tie.Need-returns-3
 returns-3 c =
     rw (
