@@ -6,6 +6,8 @@ use lib.ListN.{length, replicate}
 use lib.Dec.{eqb}
 use Rattle.wire.specs.Bytes.{big}
 use Rattle.pdu.specs.Reading.{reading, numberOf, sizeOf}
+use Rattle.station.specs.Units.{fresh, unitsHeld}
+use Rattle.station.specs.Runs.{datagram, time, after}
 use Rattle.pdu.specs.declared.Reading.{Reading}
 use Rattle.pdu.specs.declared.Reading.the-variants.{Refused, Transmitter, Signal}
 
@@ -27,10 +29,21 @@ signal size dataBytes slotId tsec =
 abbrev pub words : ℕ → ℕ → List ℕ
 words n size = signal size (26 + 10 * n) 0 0
 
--- a row: a datagram with the number and size of its answer; or a Signal that is taken, with its epoch and slot
+-- a Transmitter of version 6 at level 0, fine, with key 1, all else zero or as 01 fixes it
+abbrev pub aTransmitter : List ℕ
+aTransmitter =
+    (6 ∷ 0 ∷ 25 ∷ 4 ∷ [])
+    ++ (zeros 4 ++ (big 2 112 ++ (zeros 8 ++ big 2 1)))
+    ++ (zeros 4 ++ (21 ∷ zeros 4 ++ (8 ∷ zeros 60)))
+    ++ (big 2 7 ++ (zeros 2 ++ (big 2 8 ++ zeros 4)))
+    ++ (8 ∷ zeros 3 ++ (0 ∷ 1 ∷ 0 ∷ 3 ∷ zeros 4))
+
+-- a row: a datagram with the number and size of its answer; or a Signal that is taken, with its epoch and slot; or how long a unit stays
 pub data Case : Type 0 where
   answers : List ℕ → ℕ → ℕ → Case
   slot-of : List ℕ → ℕ → ℕ → Case
+  -- a unit last heard at this second, a clock, and the number of units held then
+  held-at : ℕ → ℕ → ℕ → Case
 
 -- whether reading answered a Signal with the epoch and slot given
 abbrev pub slotIs : Reading → ℕ → ℕ → Bool
@@ -42,6 +55,8 @@ slotIs (Signal s n) epoch slot = eqb (s .network .epoch) epoch && eqb (s .networ
 abbrev pub holds : Case → Bool
 holds (answers d number size) = eqb (numberOf (reading d)) number && eqb (sizeOf (reading d)) size
 holds (slot-of d epoch slot) = slotIs (reading d) epoch slot
+holds (held-at last t count) =
+    eqb (unitsHeld (after (fresh 0 0) (time last ∷ datagram aTransmitter ∷ time t ∷ []))) count
 
 -- whether every row holds
 abbrev pub all-hold : List Case → Bool
@@ -64,4 +79,7 @@ starred-cases =
     ∷ answers (signal 60 26 0x7000B060 0) 13 0
     ∷ answers (signal 60 26 0 128) 13 0  -- TSEC 128 and 254
     ∷ answers (signal 60 26 0 254) 13 0
+    ∷ answers aTransmitter 0 112  -- the Transmitter of the next two rows is taken
+    ∷ held-at 40 99 1  -- last heard at 40: in at 99
+    ∷ held-at 40 100 0  -- removed at 100
     ∷ []

@@ -1,6 +1,7 @@
 // The calls of the C host, on numbers and byte slices. Every export of the archive stands in this crate.
 ghost use mathlib.Core.Path.{_≡_};
 ghost use Rattle.pdu.specs.Reading.{reading, numberOf, sizeOf};
+ghost use Rattle.trunk.specs.Record.{checked, numberOfChecked, sizeOfChecked};
 ghost use Rattle.host.specs.Answer.{packed};
 
 // The answer number and size for a datagram; a null pointer with length 0 is an empty slice.
@@ -10,4 +11,13 @@ pub extern "C" fn altuvrin_datagram(bytes: &[u8]) -> u64
 {
     let answer = pdu::read(bytes);
     pdu::number(answer) as u64 * 4294967296 + pdu::size(answer) as u64
+}
+
+// The answer number and size for a trunk record, as the lister's check gives them.
+#[no_mangle]
+pub extern "C" fn altuvrin_record(bytes: &[u8]) -> u64
+    ensures { λ r. ⌜ r ≡ packed (numberOfChecked (checked (now (bytes .entry)))) (sizeOfChecked (checked (now (bytes .entry)))) ⌝ }
+{
+    let answer = trunk::records::check(bytes);
+    trunk::records::number(answer) as u64 * 4294967296 + trunk::records::size(answer) as u64
 }

@@ -1,6 +1,6 @@
 -- The occupancy word: sixteen places, place i held exactly where bit i of the word is 1.
 use Prim.Native.Nat.{ℕ, zero, suc, _+_, _/_, _%_, _^_}
-use mathlib.Core.Bool.{Bool, true, false, cond, not}
+use mathlib.Core.Bool.{Bool, cond, not}
 use lib.Dec.{eqb}
 
 -- 01, "16 places for units"

@@ -1,8 +1,8 @@
 // The occupancy word of a station's sixteen places: bit i is 1 exactly where place i is held.
 // Internal: the crates above are proved to meet each `requires`.
 ghost use mathlib.Core.Path.{_≡_};
-ghost use mathlib.Core.Bool.{false, cond};
-ghost use Prim.Native.Nat.{_+_, _^_, _≤_, _<_};
+ghost use mathlib.Core.Bool.{false};
+ghost use Prim.Native.Nat.{_^_, _<_};
 ghost use Rattle.occupancy.specs.Places.{held, freePlace, heldCount, withPlace};
 
 pub const PLACES: usize = 16;

@@ -1,9 +1,9 @@
 -- What follows from the table for one call: which answers change nothing, who can change nothing, and that no Transmitter lets a unit in.
 -- Each statement goes through the rows: a row either leaves the station as it was, or its premises refute what was assumed.
 -- Assumes nothing.
-use Prim.Native.Nat.{ℕ, _<_, _≤_}
+use Prim.Native.Nat.{ℕ, _<_}
 use mathlib.Core.Path.{_≡_, refl, sym, ap, _∙_, subst}
-use mathlib.Core.Bool.{Bool, true, false, true≢false, false≢true}
+use mathlib.Core.Bool.{Bool, true, false, true≢false}
 use mathlib.Core.List.{List}
 use mathlib.Core.Logic.{_⊎_, inl, inr, ⊎-elim}
 use lib.ListN.{length}
@@ -16,8 +16,9 @@ use Rattle.pdu.specs.declared.Transmitter.{Transmitter}
 use Rattle.pdu.specs.declared.Signal.{Signal}
 use Rattle.pdu.specs.declared.Reading.{Reading}
 use Rattle.pdu.specs.declared.Reading.the-variants.{Refused, Transmitter as aTransmitter, Signal as aSignal}
-use Rattle.station.specs.Units.{keyOf, unitAt, placeOf}
-use Rattle.station.specs.Runs.{Call, datagram, time, called}
+use Rattle.station.specs.Units.{keyOf, unitAt}
+use Rattle.station.specs.Hearing.{answering, step, heard}
+use Rattle.station.specs.Runs.{Call, datagram, called}
 use Rattle.station.specs.declared.Station.{Station}
 use Rattle.station.proofs.PlaceLaws.{Sender, Stranger, sender-place, Agree, Clash}
 use Rattle.station.proofs.Table.{SameOwn, Passed, Table, unread, no-room, entered, again, stranger, other-net, other-id, not-fine, not-in, joined, positioned, passed, back, ticked, only-by-rules}
@@ -37,10 +38,12 @@ read-once r p q = cc
 not-both : {g : Signal} {t : Transmitter} {n : ℕ} (r : Reading) → r ≡ aSignal g n → r ≡ aTransmitter t → ⊥
 not-both r p q = let z : _≡_ {A = ℕ} 0 1 = cc in omega arith
 
-not-refused : {t : Transmitter} {n : ℕ} (r : Reading) → r ≡ aTransmitter t → r ≡ Refused n → ⊥
-not-refused r p q = let z : _≡_ {A = ℕ} 0 1 = cc in omega arith
+-- A datagram that the reader refuses is answered with the reader's number, and leaves the whole station as it was.
+pub unread-changes-nothing : (s : Station) (d : List ℕ) (n : ℕ) → reading d ≡ Refused n → heard s d ≡ answering n s
+unfolding heard step
+unread-changes-nothing s d n e = rw e
 
--- Every answer below 40 (the reader's numbers, 30 to 36), and 44, leaves the whole station as it was.
+-- Every answer below 40 (30 to 36 among them), and 44, leaves the whole station as it was.
 pub refusals-change-nothing : (s : Station) → length (s .units) ≡ 16 → (c : Call) → (called s c .answer < 40) ⊎ (called s c .answer ≡ 44) → called s c .station ≡ s
 refusals-change-nothing s sized c w = go (only-by-rules s sized c) w
   where

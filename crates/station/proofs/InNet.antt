@@ -2,14 +2,14 @@
 -- becomes Fine exactly by one where not both levels are 4. By induction on the list: each call is a row of the table, and only the row of
 -- answer 42 touches the state.
 -- Assumes nothing.
-use Prim.Native.Nat.{ℕ, _<_, _≤_}
+use Prim.Native.Nat.{ℕ, _<_}
 use mathlib.Core.Path.{_≡_, refl, sym, ap, _∙_, subst}
-use mathlib.Core.Bool.{Bool, true, false, cond, _||_, true≢false, false≢true}
+use mathlib.Core.Bool.{Bool, true, false, cond, _||_, false≢true}
 use mathlib.Core.List.{List, [], _∷_}
 use mathlib.Core.Logic.{_⊎_, inl, inr, ⊎-elim, _↔_}
 use lib.ListN.{length, getD}
 use lib.Pow.{pow-pos}
-use lib.Dec.{eqb, ltb}
+use lib.Dec.{ltb}
 use borrow.Author.Tests.{eq-eqb, lt-ltb}
 use native.Mathlib.Omega.{arith}
 use Rattle.occupancy.specs.Places.{held}
@@ -17,19 +17,18 @@ use Rattle.occupancy.proofs.WordLaws.{held-past}
 use Rattle.pdu.specs.Reading.{reading}
 use Rattle.pdu.specs.declared.Transmitter.{Transmitter}
 use Rattle.pdu.specs.declared.Signal.{Signal}
-use Rattle.pdu.specs.declared.Reading.{Reading}
-use Rattle.pdu.specs.declared.Reading.the-variants.{Refused, Transmitter as aTransmitter, Signal as aSignal}
+use Rattle.pdu.specs.declared.Reading.the-variants.{Transmitter as aTransmitter, Signal as aSignal}
 use Rattle.station.specs.Numbers.{lastLevel, lastNet}
 use Rattle.station.specs.Units.{keyOf, blank, fresh, made, unitAt}
 use Rattle.station.specs.Hearing.{answering, signalRules, afterJ00, hearMessage, hearSignal, step, firstWord, heard}
-use Rattle.station.specs.Runs.{Call, datagram, time, called, after}
+use Rattle.station.specs.Runs.{Call, datagram, called, after}
 use Rattle.station.specs.declared.State.{State}
 use Rattle.station.specs.declared.State.the-variants.{Waiting, Coarse, Fine}
 use Rattle.station.specs.declared.Unit.{Unit}
 use Rattle.station.specs.declared.Station.{Station}
 use Rattle.station.specs.declared.Heard.{Heard}
 use Rattle.station.specs.declared.Made.{Made}
-use Rattle.station.proofs.ReaderLaws.{refused-small}
+use Rattle.station.proofs.ReaderLaws.{refused-not-42}
 use Rattle.station.proofs.PlaceLaws.{sender-place, agreeing, IsJ00, says-j00}
 use Rattle.station.proofs.Table.{Joined, Passed, Table, unread, no-room, entered, again, stranger, other-net, other-id, not-fine, not-in, joined, positioned, passed, back, ticked, joined-row, only-by-rules}
 use Rattle.station.proofs.Changes.{same-or-not}
@@ -67,9 +66,15 @@ pub data Some (P : Station → Call → Type 0) : Station → List Call → Type
   here : {s : Station} {c : Call} {cs : List Call} → P s c → Some P s (c ∷ cs)
   later : {s : Station} {c : Call} {cs : List Call} → Some P (called s c .station) cs → Some P s (c ∷ cs)
 
--- The station is Coarse or Fine exactly if some call was a J0.0 that it took; and it is Fine exactly if some such J0.0 met not both levels at 4.
+-- The station answers the call with this number.
+abbrev pub Answered : ℕ → Station → Call → Type 0
+Answered n s c = called s c .answer ≡ n
+
+-- The station is Coarse or Fine exactly if some call was a J0.0 that it took, which is exactly if some call was answered 42; and it is Fine
+-- exactly if some such J0.0 met not both levels at 4.
 pub record InNet (s : Station) (calls : List Call) : Type 0 where
   pub in-net : (after s calls .state ≡ Waiting → ⊥) ↔ Some Joins s calls
+  pub answered : (after s calls .state ≡ Waiting → ⊥) ↔ Some (Answered 42) s calls
   pub fine : (after s calls .state ≡ Fine) ↔ Some JoinsFine s calls
 
 -- ---- one call
@@ -99,7 +104,7 @@ pub answered-42 : (s : Station) → length (s .units) ≡ 16 → (c : Call) → 
 answered-42 s sized c = (λ e. go (only-by-rules s sized c) e, λ j. ap (λ (h : Heard). h .answer) (joins-outcome s c j))
   where
     go : {c : Call} {n : ℕ} {s′ : Station} → Table s c n s′ → n ≡ 42 → Joins s c
-    go (unread {d = d} n e) q = absurd (omega (arith, refused-small d n e))
+    go (unread {d = d} n e) q = absurd (refused-not-42 d n e q)
     go (no-room t e x y) q = absurd (omega arith)
     go (entered t i e x y z) q = absurd (omega arith)
     go (again t i e x y) q = absurd (omega arith)
@@ -258,6 +263,12 @@ some-fine sized (here {s = s} {c = c} {cs = cs} j) =
     stays-fine (called s c .station) cs (sized-after (only-by-rules s sized c) sized) (joins-joined s c (j .joins) .fine (j .levels))
 some-fine sized (later {s = s} {c = c} v) = some-fine (sized-after (only-by-rules s sized c) sized) v
 
+-- calls of one kind that are all of another
+some-are : (P Q : Station → Call → Type 0) → ((s : Station) → length (s .units) ≡ 16 → (c : Call) → P s c → Q s c)
+    → {s : Station} {cs : List Call} → length (s .units) ≡ 16 → Some P s cs → Some Q s cs
+some-are P Q f sized (here {s = s} {c = c} p) = here (f s sized c p)
+some-are P Q f sized (later {s = s} {c = c} v) = later (some-are P Q f (sized-after (only-by-rules s sized c) sized) v)
+
 -- what holds of every fresh station holds of every station that the maker gives
 pub of-made : (Q : Station → Type 0) → ((level net : ℕ) → Q (fresh level net)) → (level net : ℕ) → Q (made level net .station)
 unfolding made
@@ -273,13 +284,20 @@ unfolding fresh
 in-net-exactly-when level net calls = of-made (λ s. InNet s calls) from-fresh level net
   where
     from-fresh : (level net : ℕ) → InNet (fresh level net) calls
-    from-fresh level net = record {
-      in-net = (λ w. ⊎-elim (λ v. absurd (v refl)) (λ v. v) (brought-in (fresh level net) calls refl w), some-in refl);
-      fine = (
-        λ w. ⊎-elim (λ (v : Waiting ≡ Fine). absurd (fine≢waiting v refl)) (λ v. v) (brought-fine (fresh level net) calls refl w),
-        some-fine refl,
-      );
-    }
+    from-fresh level net =
+        let joins : (after (fresh level net) calls .state ≡ Waiting → ⊥) → Some Joins (fresh level net) calls =
+        (λ w. ⊎-elim (λ v. absurd (v refl)) (λ v. v) (brought-in (fresh level net) calls refl w)) in
+        record {
+          in-net = (joins, some-in refl);
+          answered = (
+            λ w. some-are Joins (Answered 42) (λ s sized c. answered-42 s sized c .1) refl (joins w),
+            λ v. some-in refl (some-are (Answered 42) Joins (λ s sized c. answered-42 s sized c .0) refl v),
+          );
+          fine = (
+            λ w. ⊎-elim (λ (v : Waiting ≡ Fine). absurd (fine≢waiting v refl)) (λ v. v) (brought-fine (fresh level net) calls refl w),
+            some-fine refl,
+          );
+        }
 
 -- ---- who is known
 

@@ -5,3 +5,4 @@ pub mod Table
 pub mod Changes
 pub mod InNet
 pub mod Sound
+pub mod Example

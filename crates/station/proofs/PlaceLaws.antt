@@ -2,14 +2,14 @@
 -- Each test is opened once here, so that the table and the theorems speak of places, keys and labels only.
 -- Assumes nothing.
 use Prim.Native.Nat.{ℕ, _<_, _≤_}
-use mathlib.Core.Path.{_≡_, refl, sym, ap, _∙_, subst}
-use mathlib.Core.Bool.{Bool, true, false, cond, not, _&&_, true≢false}
+use mathlib.Core.Path.{_≡_, refl, sym, ap, _∙_}
+use mathlib.Core.Bool.{Bool, true, false, cond, not, _&&_, _||_, true≢false}
 use mathlib.Core.Logic.{_⊎_, inl, inr}
 use lib.Dec.{eqb, ltb}
-use borrow.Author.Tests.{eqb-true, eqb-false, eq-eqb, ne-eqb, ltb-true, ltb-false, lt-ltb, not-true, not-false}
+use borrow.Author.Tests.{eqb-true, eqb-false, eq-eqb, ltb-true, ltb-false, not-true, not-false}
 use native.Mathlib.Omega.{arith}
 use Rattle.wire.proofs.TableLaws.{both-true}
-use Rattle.occupancy.specs.Places.{places, held, freePlace}
+use Rattle.occupancy.specs.Places.{held, freePlace}
 use Rattle.occupancy.proofs.LeastLaws.{least-is, least-below, least-here}
 use Rattle.pdu.specs.declared.Word.{Word}
 use Rattle.pdu.specs.declared.Word.the-variants.{Absent, Here}
@@ -18,7 +18,6 @@ use Rattle.station.specs.Hearing.{otherId, labelled, messageOf, isFine}
 use Rattle.station.specs.declared.State.{State}
 use Rattle.station.specs.declared.State.the-variants.{Waiting, Coarse, Fine}
 use Rattle.station.specs.declared.Station.{Station}
-use Rattle.station.specs.declared.Message.{Message}
 use Rattle.station.specs.declared.Message.the-variants.{NetEntry, Ppli, Other}
 
 -- ---- where a key stands
@@ -93,19 +92,21 @@ Clash own sender = (own ≡ sender → ⊥) × (own ≡ 0 → ⊥) × (sender �
 
 pub clash : (own sender : ℕ) → otherId own sender ≡ true → Clash own sender
 unfolding otherId
-clash own sender e =
-    let apart = both-true (not (eqb own sender)) (not (eqb own 0) && not (eqb sender 0)) e in
-    let given = both-true (not (eqb own 0)) (not (eqb sender 0)) (apart .1) in (
-      eqb-false own sender (not-true (eqb own sender) (apart .0)),
-      eqb-false own 0 (not-true (eqb own 0) (given .0)),
-      eqb-false sender 0 (not-true (eqb sender 0) (given .1)),
-    )
+clash own sender e = go (eqb own sender) (eqb own 0) (eqb sender 0) refl refl refl e
+  where
+    go : (a b c : Bool) → eqb own sender ≡ a → eqb own 0 ≡ b → eqb sender 0 ≡ c → (not (b || c) && not a) ≡ true → Clash own sender
+    go true true c x y z f = absurd (true≢false (sym f))
+    go true false true x y z f = absurd (true≢false (sym f))
+    go true false false x y z f = absurd (true≢false (sym f))
+    go false true c x y z f = absurd (true≢false (sym f))
+    go false false true x y z f = absurd (true≢false (sym f))
+    go false false false x y z f = (eqb-false own sender x, eqb-false own 0 y, eqb-false sender 0 z)
 
 pub agree : (own sender : ℕ) → otherId own sender ≡ false → Agree own sender
 unfolding otherId
 agree own sender e = go (eqb own sender) (eqb own 0) (eqb sender 0) refl refl refl e
   where
-    go : (a b c : Bool) → eqb own sender ≡ a → eqb own 0 ≡ b → eqb sender 0 ≡ c → (not a && (not b && not c)) ≡ false → Agree own sender
+    go : (a b c : Bool) → eqb own sender ≡ a → eqb own 0 ≡ b → eqb sender 0 ≡ c → (not (b || c) && not a) ≡ false → Agree own sender
     go true b c x y z f = inl (eqb-true own sender x)
     go false true c x y z f = inr (inl (eqb-true own 0 y))
     go false false true x y z f = inr (inr (eqb-true sender 0 z))
@@ -113,17 +114,17 @@ agree own sender e = go (eqb own sender) (eqb own 0) (eqb sender 0) refl refl re
 
 pub agreeing : (own sender : ℕ) → Agree own sender → otherId own sender ≡ false
 unfolding otherId
-agreeing own sender (inl e) = rw (eq-eqb own sender e)
-agreeing own sender (inr w) = go (not (eqb own sender)) w
+agreeing own sender w = go (eqb own sender) (eqb own 0) (eqb sender 0) refl refl refl w
   where
-    go : (b : Bool) → (own ≡ 0) ⊎ (sender ≡ 0) → (b && (not (eqb own 0) && not (eqb sender 0))) ≡ false
-    go true (inl e) = rw (eq-eqb own 0 e)
-    go true (inr e) = rw (eq-eqb sender 0 e) (never (not (eqb own 0)))
-      where
-        never : (b : Bool) → (b && false) ≡ false
-        never true = refl
-        never false = refl
-    go false v = refl
+    go : (a b c : Bool) → eqb own sender ≡ a → eqb own 0 ≡ b → eqb sender 0 ≡ c → Agree own sender → (not (b || c) && not a) ≡ false
+    go true true c x y z f = refl
+    go true false true x y z f = refl
+    go true false false x y z f = refl
+    go false true c x y z f = refl
+    go false false true x y z f = refl
+    go false false false x y z (inl f) = absurd (eqb-false own sender x f)
+    go false false false x y z (inr (inl f)) = absurd (eqb-false own 0 y f)
+    go false false false x y z (inr (inr f)) = absurd (eqb-false sender 0 z f)
 
 -- ---- what a first word says
 

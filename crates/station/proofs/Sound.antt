@@ -3,9 +3,9 @@
 -- Assumes nothing.
 use Prim.Native.Nat.{ℕ, _-_, _^_, _<_, _≤_}
 use mathlib.Core.Path.{_≡_, refl, sym, ap, _∙_, subst}
-use mathlib.Core.Bool.{Bool, true, false, true≢false, false≢true}
+use mathlib.Core.Bool.{true, true≢false, false≢true}
 use mathlib.Core.List.{List, [], _∷_}
-use mathlib.Core.Logic.{_⊎_, inl, inr, ⊎-elim}
+use mathlib.Core.Logic.{⊎-elim}
 use lib.ListN.{length, getD}
 use lib.Pow.{pow-pos}
 use native.Mathlib.Omega.{arith}
@@ -18,7 +18,7 @@ use Rattle.station.specs.declared.Unit.{Unit}
 use Rattle.station.specs.declared.Station.{Station}
 use Rattle.station.proofs.Table.{SameElse, Table, unread, no-room, entered, again, stranger, other-net, other-id, not-fine, not-in, joined, positioned, passed, back, ticked, only-by-rules}
 use Rattle.station.proofs.Changes.{same-or-not}
-use Rattle.station.proofs.InNet.{sized-after, of-made}
+use Rattle.station.proofs.InNet.{of-made}
 
 -- place i is one of the sixteen and held
 pub record HeldAt (s : Station) (i : ℕ) : Type 0 where

@@ -3,28 +3,27 @@
 -- The one premise, that a station has sixteen places, holds of every station that a program can hold.
 -- Assumes nothing.
 use Prim.Native.Nat.{ℕ, _-_, _^_, _<_, _≤_}
-use mathlib.Core.Path.{_≡_, refl, sym, ap, _∙_, subst}
-use mathlib.Core.Bool.{Bool, true, false, cond, not, _&&_, _||_, true≢false, false≢true}
+use mathlib.Core.Path.{_≡_, refl, sym, ap, _∙_}
+use mathlib.Core.Bool.{Bool, true, false, cond, not, _&&_, _||_, true≢false}
 use mathlib.Core.List.{List, [], _∷_}
 use mathlib.Core.Logic.{_⊎_, inl, inr, _↔_}
 use lib.ListN.{length, getD, set, length-set}
 use lib.Seq.{getD-set-same, getD-set-other}
-use lib.Dec.{eqb, leb, ltb}
-use borrow.Author.Tests.{eqb-true, eqb-false, eq-eqb, ne-eqb, ltb-true, ltb-false, leb-true, leb-false, le-leb, lt-leb, not-true, not-false}
+use lib.Dec.{eqb, ltb}
+use borrow.Author.Tests.{eqb-true, eqb-false, eq-eqb, ne-eqb, ltb-true, ltb-false, leb-false, lt-leb, not-true, not-false}
 use native.Mathlib.Omega.{arith}
-use Rattle.wire.specs.First.{Refusal, _given-when_, first}
+use Rattle.wire.specs.First.{Refusal, _given-when_}
 use Rattle.wire.proofs.TableLaws.{both-true}
-use Rattle.occupancy.specs.Places.{places, held, freePlace, withPlace, wordOf}
+use Rattle.occupancy.specs.Places.{held, freePlace}
 use Rattle.occupancy.proofs.WordLaws.{held-taken, taken-fits, built-fits, held-built}
 use Rattle.pdu.specs.Reading.{reading}
 use Rattle.pdu.specs.declared.Transmitter.{Transmitter}
 use Rattle.pdu.specs.declared.Signal.{Signal}
-use Rattle.pdu.specs.declared.Word.{Word}
 use Rattle.pdu.specs.declared.Reading.{Reading}
 use Rattle.pdu.specs.declared.Reading.the-variants.{Refused, Transmitter as aTransmitter, Signal as aSignal}
 use Rattle.station.specs.Numbers.{absence}
 use Rattle.station.specs.Units.{keyOf, unitAt, placeOf, known, withUnit, withNew}
-use Rattle.station.specs.Hearing.{answering, unless, newUnit, renewed, enter, renew, hearTransmitter, otherId, senderOf, signalRules, messageOf, stateAfter, bothCoarse, idAfter, afterJ00, afterPpli, heardUnit, isFine, notFine, notIn, hearMessage, hearSignal, step, firstWord, heard}
+use Rattle.station.specs.Hearing.{answering, unless, newUnit, renewed, enter, renew, hearTransmitter, otherId, senderOf, signalRules, messageOf, stateAfter, bothCoarse, afterJ00, afterPpli, heardUnit, isFine, hearMessage, hearSignal, step, firstWord, heard}
 use Rattle.station.specs.Clock.{silent, stays, atTime, clocked}
 use Rattle.station.specs.Runs.{Call, datagram, time, called}
 use Rattle.station.specs.declared.State.{State}

@@ -8,7 +8,6 @@ use Rattle.occupancy.specs.Places.{places, held, wordOf}
 use Rattle.station.specs.Numbers.{absence}
 use Rattle.station.specs.Units.{unitAt}
 use Rattle.station.specs.Hearing.{answering, unless}
-use Rattle.station.specs.declared.Unit.{Unit}
 use Rattle.station.specs.declared.Station.{Station}
 use Rattle.station.specs.declared.Heard.{Heard}
 

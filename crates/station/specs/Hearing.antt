@@ -1,6 +1,6 @@
 -- What a datagram does to a station, and what the call answers. Answers are document 01's numbers: the reader's own, 30 to 35, and 40 to 44.
 use Prim.Native.Nat.{ℕ}
-use mathlib.Core.Bool.{Bool, true, false, cond, not, _&&_}
+use mathlib.Core.Bool.{Bool, true, false, cond, not, _&&_, _||_}
 use mathlib.Core.List.{List, [], _∷_}
 use lib.Dec.{eqb, ltb}
 use Rattle.wire.specs.First.{Refusal, _given-when_, first}
@@ -13,7 +13,7 @@ use Rattle.pdu.specs.declared.Word.{Word}
 use Rattle.pdu.specs.declared.Word.the-variants.{Absent, Here}
 use Rattle.pdu.specs.declared.Reading.{Reading}
 use Rattle.pdu.specs.declared.Reading.the-variants.{Refused, Transmitter as aTransmitter, Signal as aSignal}
-use Rattle.station.specs.Numbers.{fine, coarseLevel, ppliLabel}
+use Rattle.station.specs.Numbers.{fine, anyId, coarseLevel, ppliLabel}
 use Rattle.station.specs.Units.{keyOf, unitAt, placeOf, known, withUnit, withNew}
 use Rattle.station.specs.declared.State.{State}
 use Rattle.station.specs.declared.State.the-variants.{Waiting, Coarse, Fine}
@@ -67,6 +67,7 @@ enter s t =
 unfoldable pub renew : Station → ℕ → Transmitter → Heard
 renew s i t = answering 41 (withUnit s i (renewed (unitAt s i) t))
 
+-- "Transmitter, key unknown: ..", "Key known: .."
 unfoldable pub hearTransmitter : Station → Transmitter → Heard
 hearTransmitter s t = cond (known s (keyOf (t .header))) (renew s (placeOf s (keyOf (t .header))) t) (enter s t)
 
@@ -74,7 +75,7 @@ hearTransmitter s t = cond (known s (keyOf (t .header))) (renew s (placeOf s (ke
 
 -- 33: the IDs differ and neither is zero
 unfoldable pub otherId : ℕ → ℕ → Bool
-otherId own sender = not (eqb own sender) && (not (eqb own 0) && not (eqb sender 0))
+otherId own sender = not (eqb own anyId || eqb sender anyId) && not (eqb own sender)
 
 -- the sender's entry
 abbrev pub senderOf : Station → Signal → Unit
@@ -110,7 +111,7 @@ bothCoarse own sender = eqb own coarseLevel && eqb sender coarseLevel
 
 -- "A zero station ID becomes the sender's ID"
 abbrev pub idAfter : ℕ → ℕ → ℕ
-idAfter own sender = cond (eqb own 0) sender own
+idAfter own sender = cond (eqb own anyId) sender own
 
 -- the station after a J0.0 from the sender u
 unfoldable pub afterJ00 : Station → Unit → Station
@@ -154,6 +155,7 @@ hearMessage s i NetEntry = unless s (notFine (unitAt s i) ∷ []) (answering 42 
 hearMessage s i Ppli = unless s (notFine (unitAt s i) ∷ []) (answering 43 (afterPpli s i))
 hearMessage s i Other = unless s (notIn s (unitAt s i) ∷ []) (answering 44 s)
 
+-- a Signal and the first word of its body: "31", "32", "33", "Then, by the first word"
 unfoldable pub hearSignal : Station → Signal → Word → Heard
 hearSignal s g w =
     unless s (signalRules s g)

@@ -12,6 +12,10 @@ lastNet = 127
 abbrev pub fine : ℕ
 fine = 3
 
+-- the ID that matches all (01: "zero ID matches all")
+abbrev pub anyId : ℕ
+anyId = 0
+
 -- the level at which a J0.0 gives Coarse only, where both sides have it
 abbrev pub coarseLevel : ℕ
 coarseLevel = 4

@@ -1,10 +1,9 @@
 -- The station's sixteen places and what stands in them.
 use Prim.Native.Nat.{ℕ, _+_, _*_}
-use mathlib.Core.Bool.{Bool, true, false, cond, not, _&&_, _||_}
-use mathlib.Core.List.{List}
+use mathlib.Core.Bool.{Bool, false, cond, _&&_, _||_}
 use lib.ListN.{getD, set, replicate}
 use lib.Dec.{eqb, ltb}
-use Rattle.occupancy.specs.Places.{places, held, least, freePlace, heldCount, withPlace}
+use Rattle.occupancy.specs.Places.{places, held, least, heldCount, withPlace}
 use Rattle.pdu.specs.declared.Header.{Header}
 use Rattle.station.specs.Numbers.{lastLevel, lastNet}
 use Rattle.station.specs.declared.State.{State}

@@ -1,8 +1,7 @@
 // Hearing a Signal.
 ghost use mathlib.Core.Path.{_≡_};
 ghost use Prim.Native.Nat.{_<_};
-ghost use Rattle.station.specs.Units.{unitAt};
-ghost use Rattle.station.specs.Hearing.{otherId, labelled, messageOf, idAfter, stateAfter, bothCoarse, afterJ00, afterPpli, heardUnit, isFine, hearMessage, hearSignal};
+ghost use Rattle.station.specs.Hearing.{otherId, labelled, messageOf, idAfter, stateAfter, afterJ00, heardUnit, isFine, hearMessage, hearSignal};
 ghost use Rattle.station.specs.declared.Message.the-variants.{NetEntry, Ppli, Other};
 use crate::Heard;
 use crate::Message;
@@ -13,7 +12,8 @@ use crate::places;
 use pdu::Signal;
 use pdu::Word;
 
-const FINE: u8 = 3;
+// The ID that matches all.
+const ANY_ID: u32 = 0;
 
 const COARSE_LEVEL: u8 = 4;
 
@@ -23,8 +23,10 @@ const PPLI_LABEL: u8 = 2;
 fn other_id(own: u32, sender: u32) -> bool
     ensures { λ r. ⌜ r ≡ otherId own sender ⌝ }
 {
-    let given = wire::both(wire::no(own == 0), wire::no(sender == 0));
-    wire::both(wire::no(own == sender), given)
+    if wire::either(own == ANY_ID, sender == ANY_ID) {
+        return false;
+    }
+    own != sender
 }
 
 // What an initial word says.
@@ -64,7 +66,7 @@ fn message(kind: u8, word: Word) -> Message
 fn id_after(own: u32, sender: u32) -> u32
     ensures { λ r. ⌜ r ≡ idAfter own sender ⌝ }
 {
-    if own == 0 { sender } else { own }
+    if own == ANY_ID { sender } else { own }
 }
 
 // The station's state after a J0.0, by whether both levels are 4.
@@ -106,15 +108,15 @@ fn net_entry(s: Station, i: usize) -> Heard
     requires { ⌜ i < 16 ⌝ }
     ensures { λ r. ⌜ r ≡ hearMessage s i NetEntry ⌝ }
 {
-    let u = s.units[i];
-    if u.state != FINE {
+    let sender = s.units[i];
+    if sender.state != crate::FINE {
         return Heard {
             station: s,
             answer: 34,
         };
     }
     Heard {
-        station: after_j00(s, u),
+        station: after_j00(s, sender),
         answer: 42,
     }
 }
@@ -139,7 +141,7 @@ fn ppli(s: Station, i: usize) -> Heard
     ensures { λ r. ⌜ r ≡ hearMessage s i Ppli ⌝ }
 {
     let u = s.units[i];
-    if u.state != FINE {
+    if u.state != crate::FINE {
         return Heard {
             station: s,
             answer: 34,

@@ -8,8 +8,6 @@ use crate::Unit;
 use crate::places;
 use pdu::Transmitter;
 
-const FINE: u8 = 3;
-
 // The entry of a unit heard for the first time.
 fn new_unit(now: u64, t: Transmitter) -> Unit
     ensures { λ r. ⌜ r ≡ newUnit now t ⌝ }
@@ -28,7 +26,7 @@ fn new_unit(now: u64, t: Transmitter) -> Unit
 fn renewed_unit(u: Unit, t: Transmitter) -> Unit
     ensures { λ r. ⌜ r ≡ renewed u t ⌝ }
 {
-    let same = wire::both(t.sync.state == FINE, t.sync.id == u.id);
+    let same = wire::both(t.sync.state == crate::FINE, t.sync.id == u.id);
     Unit {
         key: u.key,
         level: t.sync.level,

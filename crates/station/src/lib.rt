@@ -1,8 +1,7 @@
 // The net-entry state of one station (document 01, "The station"): what each datagram and each clock makes of it.
 // Every public call takes every station and every argument, and is promised as a whole answer and a whole station after it.
 ghost use mathlib.Core.Path.{_≡_};
-ghost use Rattle.pdu.specs.Reading.{reading};
-ghost use Rattle.station.specs.Units.{keyOf, fresh, made, unitsHeld, seenOf, placeAt};
+ghost use Rattle.station.specs.Units.{keyOf, fresh, made, stateNumber, unitsHeld, seenOf, placeAt};
 ghost use Rattle.station.specs.Hearing.{heard};
 ghost use Rattle.station.specs.Clock.{clocked};
 use pdu::Header;
@@ -16,6 +15,9 @@ mod places;
 const LAST_LEVEL: u8 = 4;
 
 const LAST_NET: u8 = 127;
+
+// The synchronization state of a sender that is fine.
+const FINE: u8 = 3;
 
 // Where a Signal's body starts.
 const BODY_START: usize = 52;
@@ -181,6 +183,17 @@ pub fn state_of(station: Station) -> State
     ensures { λ r. ⌜ r ≡ station .state ⌝ }
 {
     station.state
+}
+
+// A number for each state: 0 Waiting, 2 Coarse, 3 Fine.
+pub fn state_number(state: State) -> u8
+    ensures { λ r. ⌜ r ≡ stateNumber state ⌝ }
+{
+    match state {
+        State::Waiting => 0,
+        State::Coarse => 2,
+        State::Fine => 3,
+    }
 }
 
 pub fn clock_of(station: Station) -> u64

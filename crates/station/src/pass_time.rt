@@ -1,19 +1,24 @@
 // Passing time: which units stay.
 ghost use mathlib.Core.Path.{_≡_};
+ghost use Prim.Native.Nat.{_-_};
 ghost use Rattle.occupancy.specs.Places.{wordOf};
 ghost use Rattle.station.specs.Clock.{silent, stays, atTime};
 use crate::Station;
 
 const ABSENCE: u64 = 60;
 
+// The seconds from `last` to t; none where t is earlier.
+fn elapsed(t: u64, last: u64) -> u64
+    ensures { λ r. ⌜ r ≡ t - last ⌝ }
+{
+    if t < last { 0 } else { t - last }
+}
+
 // Whether a unit last heard at this second is absent at t.
 fn is_silent(t: u64, last: u64) -> bool
     ensures { λ r. ⌜ r ≡ silent t last ⌝ }
 {
-    if t < last {
-        return false;
-    }
-    ABSENCE <= t - last
+    ABSENCE <= elapsed(t, last)
 }
 
 // The word of the places that stay held at t.

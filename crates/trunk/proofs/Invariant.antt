@@ -9,9 +9,9 @@ use mathlib.Core.List.{List, [], _∷_, _++_, List·Memᴰ, List·Memᴰ·append
 use lib.ListN.{length, getD, take, drop, length-append, List·getD-append}
 use lib.Seq.{length-sets, take-at, take-suc, take-append-le, getD-append-seam}
 use lib.Dec.{ltb}
-use borrow.Author.Tests.{ltb-true, ltb-false, eqb-false}
 use native.Mathlib.Numerals.{add-one}
 use native.Mathlib.Omega.{arith}
+use borrow.Author.Tests.{ltb-true, ltb-false, eqb-false}
 use Rattle.wire.specs.Bytes.{Bytes, splice}
 use Rattle.pdu.specs.Plain.{Met}
 use Rattle.pdu.specs.Reading.{reading}

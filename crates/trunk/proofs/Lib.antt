@@ -1,4 +1,7 @@
 -- Laws and theorems of the trunk that belong to no one function.
+pub mod KindLaws
+pub mod WriteLaws
+pub mod EndLaws
 pub mod RecordLaws
 pub mod RuleLaws
 pub mod CallLaws

@@ -9,8 +9,8 @@ use mathlib.Core.List.{List, [], _∷_, _++_, append-assoc}
 use lib.ListN.{length, getD, take, length-append}
 use lib.Seq.{take-at, drop-at}
 use lib.Dec.{eqb}
-use borrow.Author.Tests.{eqb-true, eq-eqb, ne-eqb, le-leb}
 use native.Mathlib.Omega.{arith}
+use borrow.Author.Tests.{eqb-true, eq-eqb, ne-eqb, le-leb}
 use Rattle.wire.specs.Bytes.{Bytes}
 use Rattle.wire.specs.Table.{fill}
 use Rattle.wire.proofs.TableLaws.{read-fill, length-fill}

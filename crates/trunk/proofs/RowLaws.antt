@@ -9,8 +9,8 @@ use mathlib.Core.List.{List, [], _∷_, _++_, append-assoc}
 use lib.ListN.{length, getD, take, drop, set}
 use lib.Seq.{length-sets, sets-eq, take-at, drop-at, take-add, drop-set-lt, take-set-le, length-take-le, getD-take, getD-drop}
 use lib.Dec.{ltb}
-use borrow.Author.Tests.{ltb-true, ltb-false}
 use native.Mathlib.Omega.{arith}
+use borrow.Author.Tests.{ltb-true, ltb-false}
 use Rattle.wire.specs.Bytes.{splice}
 use Rattle.trunk.specs.Record.{kindIn}
 use Rattle.trunk.specs.Near.{rows, rowSize, storeSize, rowStart, rowKind}

@@ -8,8 +8,8 @@ use mathlib.Core.Bool.{Bool, true, false, cond, not, _||_, true≢false}
 use mathlib.Core.List.{List, _∷_}
 use lib.ListN.{length}
 use lib.Dec.{eqb, ltb, leb}
-use borrow.Author.Tests.{le-ltb, not-true, eqb-true, eqb-false, eq-eqb, ne-eqb, ltb-true, lt-ltb}
 use native.Mathlib.Omega.{arith}
+use borrow.Author.Tests.{le-ltb, not-true, eqb-true, eqb-false, eq-eqb, ne-eqb, ltb-true, lt-ltb}
 use Rattle.wire.specs.Bytes.{Bytes}
 use Rattle.wire.specs.First.{Refusal, _given-when_, first}
 use Rattle.wire.proofs.FitLaws.{bytes-drop}
@@ -26,7 +26,7 @@ use Rattle.pdu.proofs.WrittenForm.{written-form-exactly}
 use Rattle.pdu.proofs.RuleLaws.{equal, at-most, below, not-below, negated, both, one-of, neither, if-so, done, _then_, Verdict, verdict}
 use Rattle.trunk.specs.Kinds.{words, transmitter, nothing, unknown, load, isUnknown, headSize, transmitterKind, replyKind, noKind, kindOf}
 use Rattle.trunk.specs.Record.{kindIn, numberIn, carriedIn, lastNumber, unknownKind, wrongSize, isReply, lastOfAll, wrongCarried}
-use Rattle.trunk.specs.Near.{rows, storeSize, wrongStore, offerRules, isHeld, sendRules, replyRules}
+use Rattle.trunk.specs.Near.{rows, storeSize, wrongStore, offerRulesOf, offerRules, isHeld, sendRules, replyRules}
 use Rattle.trunk.specs.Far.{leastOutput, noRoom, arrivalRules}
 use Rattle.trunk.specs.Plain.{KnownKind, KindRule, LengthRule, CarriedRule, TypeRule, plainOffer, plainSend, plainReply, plainArrival}
 use Rattle.trunk.specs.declared.Near.{Near}
@@ -140,7 +140,7 @@ one-more {broken = false} z h v =
     }
 
 pub offer-verdict : (near : Near) (store d : List ℕ) → Verdict (offerRules near store d) (plainOffer near store d)
-unfolding offerRules
+unfolding offerRulesOf
 offer-verdict near store d =
     rw (refusal-read d)
     (one-more (λ b e. omega arith) (store-says store)

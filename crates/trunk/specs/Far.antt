@@ -5,7 +5,6 @@ use mathlib.Core.List.{List, [], _∷_, _++_}
 use lib.ListN.{length, drop}
 use lib.Dec.{eqb, ltb}
 use Rattle.wire.specs.First.{Refusal, _given-when_, first}
-use Rattle.station.specs.Units.{fresh}
 use Rattle.station.specs.Hearing.{heard}
 use Rattle.station.specs.Clock.{clocked}
 use Rattle.station.specs.declared.Station.{Station}

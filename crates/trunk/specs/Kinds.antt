@@ -53,8 +53,12 @@ isUnknown transmitter = false
 isUnknown nothing = false
 isUnknown unknown = true
 
+-- the kind that carries a Signal of this message type with a body of n bytes, or none
+abbrev pub kindOfWords : ℕ → ℕ → ℕ
+kindOfWords type n = cond (eqb type 0) (wordsIn n) noKind
+
 -- the kind that carries what reading answered, or none: types 1 to 7 are not carried
 abbrev pub kindOf : Reading → ℕ
 kindOf (Refused n) = noKind
 kindOf (Transmitter t) = transmitterKind
-kindOf (Signal s n) = cond (eqb (s .network .«message_type») 0) (wordsIn n) noKind
+kindOf (Signal s n) = kindOfWords (s .network .«message_type») n

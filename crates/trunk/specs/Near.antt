@@ -8,6 +8,7 @@ use Rattle.wire.specs.Bytes.{num, splice}
 use Rattle.wire.specs.First.{Refusal, _given-when_, first}
 use Rattle.pdu.specs.Reading.{reading, numberOf}
 use Rattle.pdu.specs.Writing.{writtenForm}
+use Rattle.pdu.specs.declared.Reading.{Reading}
 use Rattle.trunk.specs.Kinds.{kindOf, noKind, load, isUnknown, recordSize, replyKind}
 use Rattle.trunk.specs.Record.{recordOf, numberIn, lastNumber, unknownKind, wrongSize, isReply}
 use Rattle.trunk.specs.declared.Near.{Near}
@@ -42,15 +43,18 @@ wrongStore store = not (eqb (length store) storeSize)
 
 -- ---- offering
 
--- "Order: 28, the reader's number, 23, 25, 24"
-unfoldable pub offerRules : Near → List ℕ → List ℕ → List Refusal
-offerRules near store d =
-    (28 given-when wrongStore store)
-    ∷ (numberOf (reading d) given-when not (eqb (numberOf (reading d)) 0))
-    ∷ (23 given-when eqb (kindOf (reading d)) noKind)
+-- "Order: 28, the reader's number, 23, 25, 24", by the store's length and what reading answered
+unfoldable pub offerRulesOf : Near → ℕ → Reading → List Refusal
+offerRulesOf near size answer =
+    (28 given-when not (eqb size storeSize))
+    ∷ (numberOf answer given-when not (eqb (numberOf answer) 0))
+    ∷ (23 given-when eqb (kindOf answer) noKind)
     ∷ (25 given-when eqb (near .accepted) lastNumber)
     ∷ (24 given-when leb rows (near .accepted - near .acknowledged))
     ∷ []
+
+abbrev pub offerRules : Near → List ℕ → List ℕ → List Refusal
+offerRules near store d = offerRulesOf near (length store) (reading d)
 
 -- the record that an offer of d writes: "The PDU takes the accepted count as its number"
 abbrev pub offerRecord : Near → List ℕ → List ℕ

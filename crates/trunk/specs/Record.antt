@@ -1,5 +1,5 @@
 -- A record's bytes, its parts, and the rules on it (01, "The numbers", 20, 21, 22, 25, 29).
-use Prim.Native.Nat.{ℕ, _+_}
+use Prim.Native.Nat.{ℕ}
 use mathlib.Core.Bool.{Bool, cond, not, _&&_}
 use mathlib.Core.List.{List, [], _∷_, _++_}
 use lib.ListN.{length, drop}

@@ -2,6 +2,10 @@
 // Only the promises of reading, writing and the station's step are used from below.
 use station::Station;
 
+pub mod far_end;
+pub mod near_end;
+pub mod records;
+
 // The near end: how many PDUs were accepted, and how many the far end has acknowledged.
 pub struct Near {
     pub accepted: u32,
@@ -67,6 +71,6 @@ pub struct Ticked {
 // What checking a record answers: a refusal; a reply or a PDU record, with its number and the record's size.
 pub enum Checked {
     Refused(u8),
-    Reply { number: u32, size: usize },
-    Pdu { kind: u8, number: u32, size: usize },
+    Reply { number: u32, size: u16 },
+    Pdu { kind: u8, number: u32, size: u16 },
 }

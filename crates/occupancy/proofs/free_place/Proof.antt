@@ -1,4 +1,4 @@
--- The zeros below the lowest one of the complement are the held places below the lowest free one.
+-- The place found is the lowest free one. The zeros below the lowest one of the complement are the held places below the lowest free one.
 -- Assumes nothing.
 use Prim.Native.Nat.{_-_}
 use native.Mathlib.Omega.{arith}

@@ -1,4 +1,4 @@
--- The ones of the word are its held places.
+-- The count is that of the held places. The ones of the word are its held places.
 -- Assumes nothing.
 use borrow.Author.Needs.{needs}
 use Rattle.occupancy.proofs.WordLaws.{ones-held}

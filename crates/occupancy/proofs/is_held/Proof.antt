@@ -1,7 +1,7 @@
--- Place i is held exactly where bit i is 1: the power of two is the divisor that bit i is read by.
+-- The test is the definition of a held place. Place i is held exactly where bit i is 1: the power of two is the divisor that bit i is read by.
 -- Assumes nothing.
 use Prim.Native.Nat.{ℕ, _/_, _%_, _<_}
-use mathlib.Core.Path.{_≡_, sym, ap, subst}
+use mathlib.Core.Path.{sym, ap, subst}
 use lib.Dec.{eqb}
 use lib.Pow.{pow-pos}
 use borrow.Author.Needs.{needs}

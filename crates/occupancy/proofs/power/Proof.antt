@@ -1,8 +1,8 @@
--- The bit shifted up by i is 2 ^ i: i is below 16, so nothing is shifted out.
+-- The word has one place held. The bit shifted up by i is 2 ^ i: i is below 16, so nothing is shifted out.
 -- Assumes nothing.
-use Prim.Native.Nat.{_^_, _*_, _<_}
-use mathlib.Core.Path.{_≡_, _∙_}
-use native.Mathlib.Nat.{mod-eq-of-lt, one-mul}
+use Prim.Native.Nat.{_^_, _*_}
+use mathlib.Core.Path.{_≡_}
+use native.Mathlib.Nat.{mod-eq-of-lt}
 use native.Mathlib.Omega.{arith}
 use lib.Pow.{pow-lt}
 use borrow.Author.Needs.{needs}

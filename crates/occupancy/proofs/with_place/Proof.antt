@@ -1,7 +1,7 @@
--- Taking a free place adds its power of two, and the sum is still a word of sixteen places.
+-- The word has the place taken. Taking a free place adds its power of two, and the sum is still a word of sixteen places.
 -- Assumes nothing.
 use Prim.Native.Nat.{ℕ, _+_, _<_}
-use mathlib.Core.Path.{_≡_, sym, ap, subst}
+use mathlib.Core.Path.{sym, ap, subst}
 use borrow.Author.Needs.{needs}
 use Rattle.occupancy.proofs.WordLaws.{taken-fits}
 use Rattle.occupancy.proofs.with_place.Statement.{statement}

@@ -1,4 +1,4 @@
--- The test on the clock decides between 36 and the station at the new time.
+-- The clock call answers and leaves what the rule says. The test on the clock decides between 36 and the station at the new time.
 -- Assumes nothing.
 use mathlib.Core.Path.{ap}
 use borrow.Author.Tests.{lt-ltb, le-ltb}
@@ -7,23 +7,17 @@ use Rattle.station.specs.Hearing.{answering}
 use borrow.Author.Needs.{needs}
 use Rattle.station.proofs.clock.Statement.{statement}
 use Rattle.station.proofs.clock.Tie as tie
-use Rattle.station.proofs.clock.Reads as reads
-use Rattle.station.proofs.clock.Lts as lts
-use Rattle.station.proofs.pass_time.at_time.Reads as at-time-reads
 
--- src/lib.rt:143:9
 returns : tie.Need-returns
 unfolding clocked
-returns c = rw (lt-ltb (c .before .before .args .t) (c .before .before .args .station .clock) (c .if1 .taken))
+returns c = rw (lt-ltb _ _ (c .if1 .taken))
 
--- src/lib.rt:149:18
 at-time-requires : tie.Need-at-time-requires
 at-time-requires c κs = search needs
 
--- src/lib.rt:139:1
 returns-2 : tie.Need-returns-2
 unfolding clocked
-returns-2 c = rw (le-ltb (c .before .before .before .args .t) (c .before .before .before .args .station .clock) (c .before .if1 .left)) (ap (answering 46) (c .at-time .ensures))
+returns-2 c = rw (le-ltb _ _ (c .before .if1 .left)) (ap (answering 46) (c .at-time .ensures))
 
 pub clock-spec : {M : Type 1} → statement M
 clock-spec = tie.close (tie.spec returns at-time-requires returns-2)

@@ -1,13 +1,10 @@
--- The fresh station is the one that is written out.
+-- The maker's station is the fresh one. The fresh station is the one that is written out.
 -- Assumes nothing.
 use mathlib.Core.Path.{refl}
 use Rattle.station.specs.Units.{fresh}
 use Rattle.station.proofs.fresh_station.Statement.{statement}
 use Rattle.station.proofs.fresh_station.Tie as tie
-use Rattle.station.proofs.fresh_station.Reads as reads
-use Rattle.station.proofs.fresh_station.Lts as lts
 
--- src/lib.rt:83:1
 returns : tie.Need-returns
 unfolding fresh
 returns c = refl

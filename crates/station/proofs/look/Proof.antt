@@ -1,32 +1,24 @@
--- The key is known exactly where its place is below 16, and the entry there is the one shown.
+-- What is known of a key is the definition's. The key is known exactly where its place is below 16, and the entry there is the one shown.
 -- Assumes nothing.
 use borrow.Author.Tests.{lt-ltb, le-ltb}
 use Rattle.station.specs.Units.{seenOf}
 use borrow.Author.Needs.{needs}
 use Rattle.station.proofs.look.Statement.{statement}
 use Rattle.station.proofs.look.Tie as tie
-use Rattle.station.proofs.look.Reads as reads
-use Rattle.station.proofs.look.Lts as lts
-use Rattle.station.proofs.places.place_of.Reads as place-of-reads
 
--- src/lib.rt:203:9
 place-of-requires : tie.Need-place-of-requires
 place-of-requires c κs = search needs
 
--- src/lib.rt:205:17
 mul-u : tie.Need-mul-u
 mul-u c = search needs
 
--- src/lib.rt:205:17
 element-copy-out-u : tie.Need-element-copy-out-u
 element-copy-out-u c = search needs
 
--- src/lib.rt:206:9
 returns : tie.Need-returns
 unfolding seenOf
 returns c = rw (← c .before .before .place-of .ensures, lt-ltb (c .before .before .place-of .result) 16 (c .before .if1 .taken))
 
--- src/lib.rt:200:1
 returns-2 : tie.Need-returns-2
 unfolding seenOf
 returns-2 c = rw (← c .before .place-of .ensures, le-ltb (c .before .place-of .result) 16 (c .if1 .left))

@@ -1,28 +1,19 @@
--- The ID and the state are those of the rule, and every other field is the station's own.
+-- The station after a J0.0 is the rule's. The ID and the state are those of the rule, and every other field is the station's own.
 -- Assumes nothing.
 use Rattle.station.specs.Hearing.{afterJ00}
 use borrow.Author.Needs.{needs}
 use Rattle.station.proofs.hear_signal.after_j00.Statement.{statement}
 use Rattle.station.proofs.hear_signal.after_j00.Tie as tie
-use Rattle.station.proofs.hear_signal.after_j00.Reads as reads
-use Rattle.station.proofs.hear_signal.after_j00.Lts as lts
-use Rattle.station.proofs.hear_signal.id_after.Reads as id-after-reads
-use Rattle.station.proofs.hear_signal.state_after.Reads as state-after-reads
-use Rattle.wire.proofs.both.Reads as both-reads
 
--- src/hear_signal.rt:89:9
 both-requires : tie.Need-both-requires
 both-requires c κs = search needs
 
--- src/hear_signal.rt:91:9
 state-after-requires : tie.Need-state-after-requires
 state-after-requires c κs = search needs
 
--- src/hear_signal.rt:96:13
 id-after-requires : tie.Need-id-after-requires
 id-after-requires c κs = search needs
 
--- src/hear_signal.rt:86:1
 returns : tie.Need-returns
 unfolding afterJ00
 returns c = rw (c .id-after .ensures, c .before .before .state-after .ensures, c .before .before .before .both .ensures)

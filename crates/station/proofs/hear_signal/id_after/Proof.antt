@@ -1,18 +1,15 @@
--- A zero ID becomes the sender's, by the test on the ID.
+-- The ID after a J0.0 is the rule's. A zero ID becomes the sender's, by the test on the ID.
 -- Assumes nothing.
+use Rattle.station.specs.Numbers.{anyId}
 use borrow.Author.Tests.{eq-eqb, ne-eqb}
 use Rattle.station.proofs.hear_signal.id_after.Statement.{statement}
 use Rattle.station.proofs.hear_signal.id_after.Tie as tie
-use Rattle.station.proofs.hear_signal.id_after.Reads as reads
-use Rattle.station.proofs.hear_signal.id_after.Lts as lts
 
--- src/hear_signal.rt:64:1
 returns : tie.Need-returns
-returns c = rw (eq-eqb (c .before .args .own) 0 (c .if1 .taken))
+returns c = rw (eq-eqb (c .before .args .own) anyId (c .if1 .taken))
 
--- src/hear_signal.rt:64:1
 returns-2 : tie.Need-returns-2
-returns-2 c = rw (ne-eqb (c .before .args .own) 0 (c .if1 .left))
+returns-2 c = rw (ne-eqb (c .before .args .own) anyId (c .if1 .left))
 
 pub id-after-spec : {M : Type 1} → statement M
 id-after-spec = tie.close (tie.spec returns returns-2)

@@ -1,33 +1,27 @@
--- Each return is one case of the label, by the tests that led there.
+-- What an initial word says is the definition's. Each return is one case of the label, by the tests that led there.
 -- Assumes nothing.
+use Rattle.station.specs.Numbers.{ppliLabel}
 use Rattle.station.specs.Hearing.{labelled}
-use mathlib.Core.Path.{_≡_, sym, _∙_}
+use mathlib.Core.Path.{sym, _∙_}
 use borrow.Author.Tests.{eq-eqb, ne-eqb}
 use borrow.Author.Needs.{needs}
 use Rattle.station.proofs.hear_signal.labelled_message.Statement.{statement}
 use Rattle.station.proofs.hear_signal.labelled_message.Tie as tie
-use Rattle.station.proofs.hear_signal.labelled_message.Reads as reads
-use Rattle.station.proofs.hear_signal.labelled_message.Lts as lts
-use Rattle.wire.proofs.both.Reads as both-reads
 
--- src/hear_signal.rt:34:8
 both-requires : tie.Need-both-requires
 both-requires c κs = search needs
 
--- src/hear_signal.rt:35:9
 returns : tie.Need-returns
 unfolding labelled
 returns c = rw (sym (c .before .both .ensures) ∙ c .if1 .taken)
 
--- src/hear_signal.rt:38:9
 returns-2 : tie.Need-returns-2
 unfolding labelled
-returns-2 c = rw (sym (c .before .before .both .ensures) ∙ c .before .if1 .left, eq-eqb (c .before .before .before .args .label) 2 (c .if2 .taken))
+returns-2 c = rw (sym (c .before .before .both .ensures) ∙ c .before .if1 .left, eq-eqb (c .before .before .before .args .label) ppliLabel (c .if2 .taken))
 
--- src/hear_signal.rt:31:1
 returns-3 : tie.Need-returns-3
 unfolding labelled
-returns-3 c = rw (sym (c .before .before .both .ensures) ∙ c .before .if1 .left, ne-eqb (c .before .before .before .args .label) 2 (c .if2 .left))
+returns-3 c = rw (sym (c .before .before .both .ensures) ∙ c .before .if1 .left, ne-eqb (c .before .before .before .args .label) ppliLabel (c .if2 .left))
 
 pub labelled-message-spec : {M : Type 1} → statement M
 labelled-message-spec = tie.close (tie.spec both-requires returns returns-2 returns-3)

@@ -1,42 +1,38 @@
--- The joined test decides between 44 and 35; neither changes the station.
+-- All else is answered 44 or 35. The joined test decides between 44 and 35; neither changes the station.
 -- Assumes nothing.
-use mathlib.Core.Path.{_≡_, sym, ap, _∙_}
+use mathlib.Core.Path.{sym, ap, _∙_}
 use mathlib.Core.Bool.{Bool, not, _&&_}
 use Rattle.station.specs.Units.{unitAt}
 use Rattle.station.specs.Hearing.{hearMessage}
 use borrow.Author.Needs.{needs}
 use Rattle.station.proofs.hear_signal.other.Statement.{statement}
 use Rattle.station.proofs.hear_signal.other.Tie as tie
-use Rattle.station.proofs.hear_signal.other.Reads as reads
-use Rattle.station.proofs.hear_signal.other.Lts as lts
-use Rattle.station.proofs.hear_signal.is_fine.Reads as is-fine-reads
-use Rattle.wire.proofs.both.Reads as both-reads
 
--- src/hear_signal.rt:170:13
 mul-u : tie.Need-mul-u
 mul-u c = search needs
 
--- src/hear_signal.rt:170:13
 element-copy-out-u : tie.Need-element-copy-out-u
 element-copy-out-u c = search needs
 
--- src/hear_signal.rt:172:29
 is-fine-requires : tie.Need-is-fine-requires
 is-fine-requires c κs = search needs
 
--- src/hear_signal.rt:172:8
 both-requires : tie.Need-both-requires
 both-requires c κs = search needs
 
--- src/hear_signal.rt:173:9
 returns : tie.Need-returns
 unfolding hearMessage
-returns c = rw (ap not (sym (c .before .both .ensures ∙ ap (λ (b : Bool). unitAt (c .before .before .before .before .args .t1) (c .before .before .before .before .args .i) .inside && b) (c .before .before .is-fine .ensures)) ∙ c .if1 .taken))
+returns c =
+    let inside = unitAt (c .before .before .before .before .args .t1) (c .before .before .before .before .args .i) .inside in
+    let test = c .before .both .ensures ∙ ap (λ (b : Bool). inside && b) (c .before .before .is-fine .ensures) in
+    rw (ap not (sym test ∙ c .if1 .taken))
 
--- src/hear_signal.rt:166:1
 returns-2 : tie.Need-returns-2
 unfolding hearMessage
-returns-2 c = rw (ap not (sym (c .before .both .ensures ∙ ap (λ (b : Bool). unitAt (c .before .before .before .before .args .t1) (c .before .before .before .before .args .i) .inside && b) (c .before .before .is-fine .ensures)) ∙ c .if1 .left))
+returns-2 c =
+    let inside = unitAt (c .before .before .before .before .args .t1) (c .before .before .before .before .args .i) .inside in
+    let test = c .before .both .ensures ∙ ap (λ (b : Bool). inside && b) (c .before .before .is-fine .ensures) in
+    rw (ap not (sym test ∙ c .if1 .left))
 
 pub other-spec : {M : Type 1} → statement M
 other-spec =

@@ -1,42 +1,32 @@
--- The test on the sender's state decides between 34 and the change of a PPLI.
+-- A PPLI is answered 34 or 43, with the station that goes with it. The test on the sender's state decides between 34 and the change of a PPLI.
 -- Assumes nothing.
 use Rattle.pdu.proofs.ReadingLaws.{differs, agrees}
 use mathlib.Core.Path.{ap, _∙_}
-use Rattle.station.specs.Units.{unitAt, withUnit}
+use Rattle.station.specs.Units.{withUnit}
 use Rattle.station.specs.Hearing.{answering, hearMessage, afterPpli}
 use borrow.Author.Needs.{needs}
 use Rattle.station.proofs.hear_signal.ppli.Statement.{statement}
 use Rattle.station.proofs.hear_signal.ppli.Tie as tie
-use Rattle.station.proofs.hear_signal.ppli.Reads as reads
-use Rattle.station.proofs.hear_signal.ppli.Lts as lts
-use Rattle.station.proofs.hear_signal.heard_unit.Reads as heard-unit-reads
-use Rattle.station.proofs.places.with_unit.Reads as with-unit-reads
 
--- src/hear_signal.rt:141:13
 mul-u : tie.Need-mul-u
 mul-u c = search needs
 
--- src/hear_signal.rt:141:13
 element-copy-out-u : tie.Need-element-copy-out-u
 element-copy-out-u c = search needs
 
--- src/hear_signal.rt:143:9
 returns : tie.Need-returns
 unfolding hearMessage
-returns c = rw (differs (unitAt (c .before .before .before .args .t1) (c .before .before .before .args .i) .state) 3 (c .if1 .taken))
+returns c = rw (differs _ _ (c .if1 .taken))
 
--- src/hear_signal.rt:149:42
 heard-unit-requires : tie.Need-heard-unit-requires
 heard-unit-requires c κs = search needs
 
--- src/hear_signal.rt:149:18
 with-unit-requires : tie.Need-with-unit-requires
 with-unit-requires c κs = search needs
 
--- src/hear_signal.rt:137:1
 returns-2 : tie.Need-returns-2
 unfolding hearMessage afterPpli
-returns-2 c = rw (agrees (unitAt (c .before .before .before .before .before .args .t1) (c .before .before .before .before .before .args .i) .state) 3 (c .before .before .if1 .left)) (ap (answering 43) (c .with-unit .ensures ∙ ap (withUnit (c .before .before .before .before .before .args .t1) (c .before .before .before .before .before .args .i)) (c .before .heard-unit .ensures)))
+returns-2 c = rw (agrees _ _ (c .before .before .if1 .left)) (ap (answering 43) (c .with-unit .ensures ∙ ap (withUnit (c .before .before .before .before .before .args .t1) (c .before .before .before .before .before .args .i)) (c .before .heard-unit .ensures)))
 
 pub ppli-spec : {M : Type 1} → statement M
 ppli-spec =

@@ -1,6 +1,6 @@
--- Each return is the first rule that applies, by the tests that led there; past all three the message decides.
+-- A Signal is answered by the first rule that applies, or by its message. Each return is the first rule that applies, by the tests that led there; past all three the message decides.
 -- Assumes nothing.
-use mathlib.Core.Path.{_≡_, sym, ap, _∙_}
+use mathlib.Core.Path.{sym, ap, _∙_}
 use Rattle.pdu.proofs.ReadingLaws.{differs, agrees}
 use borrow.Author.Tests.{lt-ltb, le-ltb}
 use Rattle.station.specs.Units.{placeOf}
@@ -8,61 +8,62 @@ use Rattle.station.specs.Hearing.{signalRules, hearMessage, hearSignal}
 use borrow.Author.Needs.{needs}
 use Rattle.station.proofs.hear_signal.signal.Statement.{statement}
 use Rattle.station.proofs.hear_signal.signal.Tie as tie
-use Rattle.station.proofs.hear_signal.signal.Reads as reads
-use Rattle.station.proofs.hear_signal.signal.Lts as lts
-use Rattle.station.proofs.hear_signal.message.Reads as message-reads
-use Rattle.station.proofs.hear_signal.other_id.Reads as other-id-reads
-use Rattle.station.proofs.hear_signal.taken.Reads as taken-reads
-use Rattle.station.proofs.key_of.Reads as key-of-reads
-use Rattle.station.proofs.places.place_of.Reads as place-of-reads
 
--- src/hear_signal.rt:200:33
 key-of-requires : tie.Need-key-of-requires
 key-of-requires c κs = search needs
 
--- src/hear_signal.rt:200:9
 place-of-requires : tie.Need-place-of-requires
 place-of-requires c κs = search needs
 
--- src/hear_signal.rt:202:9
 returns : tie.Need-returns
 unfolding hearSignal signalRules
-returns c = rw (← (c .before .place-of .ensures ∙ ap (placeOf (c .before .before .before .args .t1)) (c .before .before .key-of .ensures)), le-ltb (c .before .place-of .result) 16 (c .if1 .taken))
+returns c =
+    let s = c .before .before .before .args .t1 in
+    let i = c .before .place-of .result in
+    let at = c .before .place-of .ensures ∙ ap (placeOf s) (c .before .before .key-of .ensures) in
+    rw (← at, le-ltb i 16 (c .if1 .taken))
 
--- src/hear_signal.rt:208:9
 returns-2 : tie.Need-returns-2
 unfolding hearSignal signalRules
-returns-2 c = rw (← (c .before .before .before .place-of .ensures ∙ ap (placeOf (c .before .before .before .before .before .args .t1)) (c .before .before .before .before .key-of .ensures)), lt-ltb (c .before .before .before .place-of .result) 16 (c .before .before .if1 .left), differs (c .before .before .before .before .before .args .g .network .net) (c .before .before .before .before .before .args .t1 .net) (c .if2 .taken))
+returns-2 c =
+    let s = c .before .before .before .before .before .args .t1 in
+    let g = c .before .before .before .before .before .args .g in
+    let i = c .before .before .before .place-of .result in
+    let at = c .before .before .before .place-of .ensures ∙ ap (placeOf s) (c .before .before .before .before .key-of .ensures) in
+    rw (← at, lt-ltb i 16 (c .before .before .if1 .left), differs (g .network .net) (s .net) (c .if2 .taken))
 
--- src/hear_signal.rt:213:13
 mul-u : tie.Need-mul-u
 mul-u c = search needs
 
--- src/hear_signal.rt:213:13
 element-copy-out-u : tie.Need-element-copy-out-u
 element-copy-out-u c = search needs
 
--- src/hear_signal.rt:214:8
 other-id-requires : tie.Need-other-id-requires
 other-id-requires c κs = search needs
 
--- src/hear_signal.rt:215:9
 returns-3 : tie.Need-returns-3
 unfolding hearSignal signalRules
-returns-3 c = rw (← (c .before .before .before .before .before .before .place-of .ensures ∙ ap (placeOf (c .before .before .before .before .before .before .before .before .args .t1)) (c .before .before .before .before .before .before .before .key-of .ensures)), lt-ltb (c .before .before .before .before .before .before .place-of .result) 16 (c .before .before .before .before .before .if1 .left), agrees (c .before .before .before .before .before .before .before .before .args .g .network .net) (c .before .before .before .before .before .before .before .before .args .t1 .net) (c .before .before .before .if2 .left), sym (c .before .other-id .ensures) ∙ c .if3 .taken)
+returns-3 c =
+    let s = c .before .before .before .before .before .before .before .before .args .t1 in
+    let g = c .before .before .before .before .before .before .before .before .args .g in
+    let i = c .before .before .before .before .before .before .place-of .result in
+    let at = c .before .before .before .before .before .before .place-of .ensures ∙ ap (placeOf s) (c .before .before .before .before .before .before .before .key-of .ensures) in
+    rw (← at, lt-ltb i 16 (c .before .before .before .before .before .if1 .left), agrees (g .network .net) (s .net) (c .before .before .before .if2 .left), sym (c .before .other-id .ensures) ∙ c .if3 .taken)
 
--- src/hear_signal.rt:220:17
 message-requires : tie.Need-message-requires
 message-requires c κs = search needs
 
--- src/hear_signal.rt:220:5
 taken-requires : tie.Need-taken-requires
 taken-requires c κs = search needs
 
--- src/hear_signal.rt:197:1
 returns-4 : tie.Need-returns-4
 unfolding hearSignal signalRules
-returns-4 c = rw (← (c .before .before .before .before .before .before .before .before .place-of .ensures ∙ ap (placeOf (c .before .before .before .before .before .before .before .before .before .before .args .t1)) (c .before .before .before .before .before .before .before .before .before .key-of .ensures)), lt-ltb (c .before .before .before .before .before .before .before .before .place-of .result) 16 (c .before .before .before .before .before .before .before .if1 .left), agrees (c .before .before .before .before .before .before .before .before .before .before .args .g .network .net) (c .before .before .before .before .before .before .before .before .before .before .args .t1 .net) (c .before .before .before .before .before .if2 .left), sym (c .before .before .before .other-id .ensures) ∙ c .before .before .if3 .left) (c .taken .ensures ∙ ap (hearMessage (c .before .before .before .before .before .before .before .before .before .before .args .t1) (c .before .before .before .before .before .before .before .before .place-of .result)) (c .before .message .ensures))
+returns-4 c =
+    let s = c .before .before .before .before .before .before .before .before .before .before .args .t1 in
+    let g = c .before .before .before .before .before .before .before .before .before .before .args .g in
+    let i = c .before .before .before .before .before .before .before .before .place-of .result in
+    let at = c .before .before .before .before .before .before .before .before .place-of .ensures ∙ ap (placeOf s) (c .before .before .before .before .before .before .before .before .before .key-of .ensures) in
+    rw (← at, lt-ltb i 16 (c .before .before .before .before .before .before .before .if1 .left), agrees (g .network .net) (s .net) (c .before .before .before .before .before .if2 .left), sym (c .before .before .before .other-id .ensures) ∙ c .before .before .if3 .left) (c .taken .ensures ∙ ap (hearMessage s i) (c .before .message .ensures))
 
 pub signal-spec : {M : Type 1} → statement M
 signal-spec =

@@ -1,4 +1,4 @@
--- The lowest free place is 16 exactly where none is free; below 16 it is free, and the new entry goes there.
+-- A first Transmitter is answered 40 with its entry made, or 30. The lowest free place is 16 exactly where none is free; below 16 it is free, and the new entry goes there.
 -- Assumes nothing.
 use mathlib.Core.Path.{_≡_, sym, ap, subst, _∙_}
 use mathlib.Core.Bool.{false, not}
@@ -11,33 +11,23 @@ use Rattle.station.specs.Hearing.{answering, enter}
 use borrow.Author.Needs.{needs}
 use Rattle.station.proofs.hear_transmitter.enter_unit.Statement.{statement}
 use Rattle.station.proofs.hear_transmitter.enter_unit.Tie as tie
-use Rattle.station.proofs.hear_transmitter.enter_unit.Reads as reads
-use Rattle.station.proofs.hear_transmitter.enter_unit.Lts as lts
-use Rattle.occupancy.proofs.free_place.Reads as free-place-reads
-use Rattle.station.proofs.hear_transmitter.new_unit.Reads as new-unit-reads
-use Rattle.station.proofs.places.with_new.Reads as with-new-reads
 
--- src/hear_transmitter.rt:46:9
 free-place-requires : tie.Need-free-place-requires
 free-place-requires c κs = search needs
 
--- src/hear_transmitter.rt:48:9
 returns : tie.Need-returns
 unfolding enter
 returns c = rw (← c .before .free-place .ensures, le-ltb (c .before .free-place .result) 16 (c .if1 .taken))
 
--- src/hear_transmitter.rt:54:41
 new-unit-requires : tie.Need-new-unit-requires
 new-unit-requires c κs = search needs
 
--- src/hear_transmitter.rt:54:18
 with-new-requires : tie.Need-with-new-requires
 with-new-requires c κs =
     let w = c .before .before .before .args .s .used in
     let low : freePlace w < 16 = subst (λ (n : ℕ). n < 16) (c .before .before .free-place .ensures) (c .before .if1 .left) in
     (c .before .if1 .left, subst (λ (n : ℕ). held w n ≡ false) (sym (c .before .before .free-place .ensures)) (not-true (held w (freePlace w)) (least-here (λ i. not (held w i)) 16 low)))
 
--- src/hear_transmitter.rt:43:1
 returns-2 : tie.Need-returns-2
 unfolding enter
 returns-2 c = rw (← c .before .before .before .free-place .ensures, lt-ltb (c .before .before .before .free-place .result) 16 (c .before .before .if1 .left)) (ap (answering 40) (c .with-new .ensures ∙ ap (withNew (c .before .before .before .before .args .s) (c .before .before .before .free-place .result)) (c .before .new-unit .ensures)))

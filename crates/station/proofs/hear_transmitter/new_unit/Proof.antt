@@ -1,17 +1,12 @@
--- The key is the promised one, and every other field is copied.
+-- The new entry is the rule's. The key is the promised one, and every other field is copied.
 -- Assumes nothing.
 use borrow.Author.Needs.{needs}
 use Rattle.station.proofs.hear_transmitter.new_unit.Statement.{statement}
 use Rattle.station.proofs.hear_transmitter.new_unit.Tie as tie
-use Rattle.station.proofs.hear_transmitter.new_unit.Reads as reads
-use Rattle.station.proofs.hear_transmitter.new_unit.Lts as lts
-use Rattle.station.proofs.key_of.Reads as key-of-reads
 
--- src/hear_transmitter.rt:18:14
 key-of-requires : tie.Need-key-of-requires
 key-of-requires c κs = search needs
 
--- src/hear_transmitter.rt:14:1
 returns : tie.Need-returns
 returns c = rw (c .key-of .ensures)
 

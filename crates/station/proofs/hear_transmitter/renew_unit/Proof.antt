@@ -1,4 +1,4 @@
--- The renewed entry goes back into its own place.
+-- A further Transmitter is answered 41 with its entry renewed. The renewed entry goes back into its own place.
 -- Assumes nothing.
 use mathlib.Core.Path.{ap, _∙_}
 use Rattle.station.specs.Units.{withUnit}
@@ -6,28 +6,19 @@ use Rattle.station.specs.Hearing.{answering, renew}
 use borrow.Author.Needs.{needs}
 use Rattle.station.proofs.hear_transmitter.renew_unit.Statement.{statement}
 use Rattle.station.proofs.hear_transmitter.renew_unit.Tie as tie
-use Rattle.station.proofs.hear_transmitter.renew_unit.Reads as reads
-use Rattle.station.proofs.hear_transmitter.renew_unit.Lts as lts
-use Rattle.station.proofs.hear_transmitter.renewed_unit.Reads as renewed-unit-reads
-use Rattle.station.proofs.places.with_unit.Reads as with-unit-reads
 
--- src/hear_transmitter.rt:64:13
 mul-u : tie.Need-mul-u
 mul-u c = search needs
 
--- src/hear_transmitter.rt:64:13
 element-copy-out-u : tie.Need-element-copy-out-u
 element-copy-out-u c = search needs
 
--- src/hear_transmitter.rt:66:42
 renewed-unit-requires : tie.Need-renewed-unit-requires
 renewed-unit-requires c κs = search needs
 
--- src/hear_transmitter.rt:66:18
 with-unit-requires : tie.Need-with-unit-requires
 with-unit-requires c κs = search needs
 
--- src/hear_transmitter.rt:60:1
 returns : tie.Need-returns
 unfolding renew
 returns c = ap (answering 41) (c .with-unit .ensures ∙ ap (withUnit (c .before .before .before .args .t1) (c .before .before .before .args .i)) (c .before .renewed-unit .ensures))

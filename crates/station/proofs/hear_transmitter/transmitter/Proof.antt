@@ -1,4 +1,4 @@
--- The key is known exactly where its place is below 16.
+-- A Transmitter renews its entry or makes one. The key is known exactly where its place is below 16.
 -- Assumes nothing.
 use mathlib.Core.Path.{ap, _∙_}
 use borrow.Author.Tests.{lt-ltb, le-ltb}
@@ -7,38 +7,30 @@ use Rattle.station.specs.Hearing.{hearTransmitter}
 use borrow.Author.Needs.{needs}
 use Rattle.station.proofs.hear_transmitter.transmitter.Statement.{statement}
 use Rattle.station.proofs.hear_transmitter.transmitter.Tie as tie
-use Rattle.station.proofs.hear_transmitter.transmitter.Reads as reads
-use Rattle.station.proofs.hear_transmitter.transmitter.Lts as lts
-use Rattle.station.proofs.hear_transmitter.enter_unit.Reads as enter-unit-reads
-use Rattle.station.proofs.hear_transmitter.renew_unit.Reads as renew-unit-reads
-use Rattle.station.proofs.key_of.Reads as key-of-reads
-use Rattle.station.proofs.places.place_of.Reads as place-of-reads
 
--- src/hear_transmitter.rt:75:33
 key-of-requires : tie.Need-key-of-requires
 key-of-requires c κs = search needs
 
--- src/hear_transmitter.rt:75:9
 place-of-requires : tie.Need-place-of-requires
 place-of-requires c κs = search needs
 
--- src/hear_transmitter.rt:77:9
 renew-unit-requires : tie.Need-renew-unit-requires
 renew-unit-requires c κs = search needs
 
--- src/hear_transmitter.rt:79:9
 enter-unit-requires : tie.Need-enter-unit-requires
 enter-unit-requires c κs = search needs
 
--- src/hear_transmitter.rt:72:1
 returns : tie.Need-returns
 unfolding hearTransmitter
-returns c = rw (← (c .before .before .place-of .ensures ∙ ap (placeOf (c .before .before .before .before .args .s)) (c .before .before .before .key-of .ensures)), lt-ltb (c .before .before .place-of .result) 16 (c .before .if1 .taken)) (c .renew-unit .ensures)
+returns c =
+    let at = c .before .before .place-of .ensures ∙ ap (placeOf (c .before .before .before .before .args .s)) (c .before .before .before .key-of .ensures) in
+    rw (← at, lt-ltb (c .before .before .place-of .result) 16 (c .before .if1 .taken)) (c .renew-unit .ensures)
 
--- src/hear_transmitter.rt:72:1
 returns-2 : tie.Need-returns-2
 unfolding hearTransmitter
-returns-2 c = rw (← (c .before .before .place-of .ensures ∙ ap (placeOf (c .before .before .before .before .args .s)) (c .before .before .before .key-of .ensures)), le-ltb (c .before .before .place-of .result) 16 (c .before .if1 .left)) (c .enter-unit .ensures)
+returns-2 c =
+    let at = c .before .before .place-of .ensures ∙ ap (placeOf (c .before .before .before .before .args .s)) (c .before .before .before .key-of .ensures) in
+    rw (← at, le-ltb (c .before .before .place-of .result) 16 (c .before .if1 .left)) (c .enter-unit .ensures)
 
 pub transmitter-spec : {M : Type 1} → statement M
 transmitter-spec =

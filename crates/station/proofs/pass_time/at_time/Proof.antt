@@ -1,18 +1,13 @@
--- The word is rebuilt and the clock set; every other field is the station's own.
+-- The station at a time is the definition's. The word is rebuilt and the clock set; every other field is the station's own.
 -- Assumes nothing.
 use Rattle.station.specs.Clock.{atTime}
 use borrow.Author.Needs.{needs}
 use Rattle.station.proofs.pass_time.at_time.Statement.{statement}
 use Rattle.station.proofs.pass_time.at_time.Tie as tie
-use Rattle.station.proofs.pass_time.at_time.Reads as reads
-use Rattle.station.proofs.pass_time.at_time.Lts as lts
-use Rattle.station.proofs.pass_time.survivors.Reads as survivors-reads
 
--- src/pass_time.rt:39:9
 survivors-requires : tie.Need-survivors-requires
 survivors-requires c κs = search needs
 
--- src/pass_time.rt:36:1
 returns : tie.Need-returns
 unfolding atTime
 returns c = rw (c .survivors .ensures)

@@ -1,11 +1,10 @@
--- The loop builds the word upward: after i turns it holds exactly the places below i that stay.
+-- The word built is that of the places that stay. The loop builds the word upward: after i turns it holds exactly the places below i that stay.
 -- The measure is the places left.
 -- Assumes nothing.
 use mathlib.Core.Path.{_≡_, refl, sym, ap, ap₂, subst, _∙_}
 use mathlib.Core.Logic.{⊎-elim}
 use mathlib.Core.Bool.{Bool, true, false, not, cond, _&&_}
-use Prim.Native.Nat.{ℕ, _+_, _-_, _^_, _≤_, _<_}
-use lib.Dec.{eqb}
+use Prim.Native.Nat.{ℕ, _+_, _-_, _^_, _≤_}
 use native.Mathlib.Nat.{le-antisymm, add-zero}
 use native.Mathlib.Numerals.{add-one}
 use native.Mathlib.Omega.{arith}
@@ -14,13 +13,6 @@ use Rattle.occupancy.specs.Places.{held, wordOf}
 use Rattle.station.specs.Clock.{stays}
 use Rattle.station.proofs.pass_time.survivors.Statement.{statement}
 use Rattle.station.proofs.pass_time.survivors.Tie as tie
-use Rattle.station.proofs.pass_time.survivors.Reads as reads
-use Rattle.station.proofs.pass_time.survivors.Lts as lts
-use Rattle.occupancy.proofs.is_held.Reads as is-held-reads
-use Rattle.occupancy.proofs.with_place.Reads as with-place-reads
-use Rattle.station.proofs.pass_time.is_silent.Reads as is-silent-reads
-use Rattle.wire.proofs.both.Reads as both-reads
-use Rattle.wire.proofs.no.Reads as no-reads
 
 abbrev Inv-loop : tie.InvT-loop
 Inv-loop t s word₀ i₀ word i = (i ≤ 16) × (word ≡ wordOf (stays s t) i)
@@ -28,48 +20,37 @@ Inv-loop t s word₀ i₀ word i = (i ≤ 16) × (word ≡ wordOf (stays s t) i)
 abbrev μ-loop : tie.MeasureT-loop
 μ-loop t s word₀ i₀ word i = 16 - i
 
--- src/pass_time.rt:25:5
 loop-holds : tie.Need-loop-holds Inv-loop μ-loop
 unfolding wordOf
 loop-holds c = (omega arith, refl)
 
--- src/pass_time.rt:26:17
 mul-u : tie.Need-mul-u Inv-loop μ-loop
 mul-u c = omega arith
 
--- src/pass_time.rt:26:17
 element-copy-out-u : tie.Need-element-copy-out-u Inv-loop μ-loop
 element-copy-out-u c = omega arith
 
--- src/pass_time.rt:27:23
 is-held-requires : tie.Need-is-held-requires Inv-loop μ-loop
 is-held-requires c κs = omega arith
 
--- src/pass_time.rt:27:63
 is-silent-requires : tie.Need-is-silent-requires Inv-loop μ-loop
 is-silent-requires c κs = tt
 
--- src/pass_time.rt:27:54
 no-requires : tie.Need-no-requires Inv-loop μ-loop
 no-requires c κs = tt
 
--- src/pass_time.rt:27:12
 both-requires : tie.Need-both-requires Inv-loop μ-loop
 both-requires c κs = tt
 
--- src/pass_time.rt:28:13
 with-place-requires : tie.Need-with-place-requires Inv-loop μ-loop
 with-place-requires c κs = (c .before .before .before .before .before .before .loop-test .taken, subst (λ (w : ℕ). held w (c .before .before .before .before .before .before .before .loop .i) ≡ false) (sym (c .before .before .before .before .before .before .before .loop .inv .1)) (built-free (stays (c .before .before .before .before .before .before .before .before .args .t1) (c .before .before .before .before .before .before .before .before .args .t)) (c .before .before .before .before .before .before .before .loop .i)))
 
--- src/pass_time.rt:30:9
 add-i : tie.Need-add-i Inv-loop μ-loop
 add-i c = omega arith
 
--- src/pass_time.rt:25:5
 loop-less : tie.Need-loop-less Inv-loop μ-loop
 loop-less c = omega arith
 
--- src/pass_time.rt:25:5
 loop-again : tie.Need-loop-again Inv-loop μ-loop
 unfolding wordOf
 loop-again c =
@@ -86,7 +67,6 @@ loop-again c =
           (c .if1 .came),
     )
 
--- src/pass_time.rt:20:1
 returns : tie.Need-returns Inv-loop μ-loop
 returns c = c .before .loop .inv .1 ∙ ap (wordOf (stays (c .before .before .args .t1) (c .before .before .args .t))) (le-antisymm (c .before .loop .inv .0) (c .loop-test .left))
 

@@ -1,4 +1,4 @@
--- The loop passes only places that are not held with the key, and stops at the first that is: that is the least.
+-- The place found is the least that is held with the key. The loop passes only places that are not held with the key, and stops at the first that is: that is the least.
 -- The measure is the places left.
 -- Assumes nothing.
 use mathlib.Core.Path.{_≡_, sym, ap, _∙_}
@@ -11,10 +11,6 @@ use Rattle.occupancy.proofs.LeastLaws.{least-is}
 use Rattle.station.specs.Units.{unitAt, holds, placeOf}
 use Rattle.station.proofs.places.place_of.Statement.{statement}
 use Rattle.station.proofs.places.place_of.Tie as tie
-use Rattle.station.proofs.places.place_of.Reads as reads
-use Rattle.station.proofs.places.place_of.Lts as lts
-use Rattle.occupancy.proofs.is_held.Reads as is-held-reads
-use Rattle.wire.proofs.both.Reads as both-reads
 
 abbrev Inv-loop : tie.InvT-loop
 Inv-loop key s i₀ i = (i ≤ 16) × ((k : ℕ) → k < i → holds s key k ≡ false)
@@ -22,44 +18,38 @@ Inv-loop key s i₀ i = (i ≤ 16) × ((k : ℕ) → k < i → holds s key k ≡
 abbrev μ-loop : tie.MeasureT-loop
 μ-loop key s i₀ i = 16 - i
 
--- src/places.rt:15:5
 loop-holds : tie.Need-loop-holds Inv-loop μ-loop
 loop-holds c = (omega arith, below-none _)
 
--- src/places.rt:16:17
 mul-u : tie.Need-mul-u Inv-loop μ-loop
 mul-u c = omega arith
 
--- src/places.rt:16:17
 element-copy-out-u : tie.Need-element-copy-out-u Inv-loop μ-loop
 element-copy-out-u c = omega arith
 
--- src/places.rt:17:23
 is-held-requires : tie.Need-is-held-requires Inv-loop μ-loop
 is-held-requires c κs = omega arith
 
--- src/places.rt:17:12
 both-requires : tie.Need-both-requires Inv-loop μ-loop
 both-requires c κs = tt
 
--- src/places.rt:18:13
 returns : tie.Need-returns Inv-loop μ-loop
 unfolding placeOf
-returns c = sym (least-is (holds (c .before .before .before .before .before .before .before .args .t1) (c .before .before .before .before .before .before .before .args .key)) 16 (c .before .before .before .before .before .before .loop .i) (c .before .before .before .before .before .before .loop .inv .0) (c .before .before .before .before .before .before .loop .inv .1) (λ _. sym (c .before .both .ensures ∙ ap (λ (b : Bool). b && eqb (unitAt (c .before .before .before .before .before .before .before .args .t1) (c .before .before .before .before .before .before .loop .i) .key) (c .before .before .before .before .before .before .before .args .key)) (c .before .before .before .is-held .ensures)) ∙ c .if1 .taken))
+returns c =
+    let test = c .before .both .ensures ∙ ap (λ (b : Bool). b && eqb (unitAt (c .before .before .before .before .before .before .before .args .t1) (c .before .before .before .before .before .before .loop .i) .key) (c .before .before .before .before .before .before .before .args .key)) (c .before .before .before .is-held .ensures) in
+    sym (least-is (holds (c .before .before .before .before .before .before .before .args .t1) (c .before .before .before .before .before .before .before .args .key)) 16 (c .before .before .before .before .before .before .loop .i) (c .before .before .before .before .before .before .loop .inv .0) (c .before .before .before .before .before .before .loop .inv .1) (λ _. sym test ∙ c .if1 .taken))
 
--- src/places.rt:20:9
 add-i : tie.Need-add-i Inv-loop μ-loop
 add-i c = omega arith
 
--- src/places.rt:15:5
 loop-less : tie.Need-loop-less Inv-loop μ-loop
 loop-less c = omega arith
 
--- src/places.rt:15:5
 loop-again : tie.Need-loop-again Inv-loop μ-loop
-loop-again c = (omega arith, below-more _ _ (c .before .before .before .before .before .before .loop .inv .1) (sym (c .before .both .ensures ∙ ap (λ (b : Bool). b && eqb (unitAt (c .before .before .before .before .before .before .before .args .t1) (c .before .before .before .before .before .before .loop .i) .key) (c .before .before .before .before .before .before .before .args .key)) (c .before .before .before .is-held .ensures)) ∙ c .if1 .left))
+loop-again c =
+    let test = c .before .both .ensures ∙ ap (λ (b : Bool). b && eqb (unitAt (c .before .before .before .before .before .before .before .args .t1) (c .before .before .before .before .before .before .loop .i) .key) (c .before .before .before .before .before .before .before .args .key)) (c .before .before .before .is-held .ensures) in
+    (omega arith, below-more _ _ (c .before .before .before .before .before .before .loop .inv .1) (sym test ∙ c .if1 .left))
 
--- src/places.rt:11:1
 returns-2 : tie.Need-returns-2 Inv-loop μ-loop
 unfolding placeOf
 returns-2 c = sym (least-is (holds (c .before .before .args .t1) (c .before .before .args .key)) 16 (c .before .loop .i) (c .before .loop .inv .0) (c .before .loop .inv .1) (λ l. absurd (omega arith)))

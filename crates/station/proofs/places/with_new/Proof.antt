@@ -1,25 +1,18 @@
--- The word has the place taken, and the entry stands in it.
+-- The station has the new entry in its place. The word has the place taken, and the entry stands in it.
 -- Assumes nothing.
 use borrow.Author.Needs.{needs}
 use Rattle.station.proofs.places.with_new.Statement.{statement}
 use Rattle.station.proofs.places.with_new.Tie as tie
-use Rattle.station.proofs.places.with_new.Reads as reads
-use Rattle.station.proofs.places.with_new.Lts as lts
-use Rattle.occupancy.proofs.with_place.Reads as with-place-reads
 
--- src/places.rt:39:9
 with-place-requires : tie.Need-with-place-requires
 with-place-requires c κs = search needs
 
--- src/places.rt:41:5
 mul-u : tie.Need-mul-u
 mul-u c = search needs
 
--- src/places.rt:41:5
 element-set-from-u : tie.Need-element-set-from-u
 element-set-from-u c = search needs
 
--- src/places.rt:35:1
 returns : tie.Need-returns
 returns c = rw (c .with-place .ensures)
 

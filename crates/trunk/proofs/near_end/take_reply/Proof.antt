@@ -1,0 +1,38 @@
+-- `take_reply` meets its contract: refused, it changes nothing; else the acknowledged count is the later of the two.
+-- Assumes nothing.
+use Prim.Native.Nat.{ℕ}
+use mathlib.Core.Path.{sym, ap, _∙_}
+use denote.Ref.{now}
+use borrow.Author.Tests.{eq-eqb, ne-eqb}
+use borrow.Author.Needs.{needs}
+use Rattle.wire.specs.First.{first}
+use Rattle.trunk.specs.declared.Reply.the-variants.{Refused, Acknowledged}
+use Rattle.trunk.proofs.KindLaws.{reply-head}
+use Rattle.trunk.specs.Near.{replyRules, replied, acknowledgedAfter}
+use Rattle.trunk.proofs.near_end.take_reply.Statement.{statement}
+use Rattle.trunk.proofs.near_end.take_reply.Tie as tie
+
+reply-refusal-requires : tie.Need-reply-refusal-requires
+reply-refusal-requires c κs = search needs
+
+returns : tie.Need-returns
+unfolding replied
+returns c =
+    rw
+    (ne-eqb (first (replyRules (c .before .before .before .args .near) (now (c .before .before .before .args .received)))) 0 (λ e. c .if1 .taken (c .before .reply-refusal .ensures ∙ e))) (ap (λ (n : ℕ). record { near = c .before .before .before .args .near; answer = Refused n }) (c .before .reply-refusal .ensures))
+
+u32-at-requires : tie.Need-u32-at-requires
+u32-at-requires c κs = reply-head (c .before .before .before .args .near) (now (c .before .before .before .args .received)) (sym (c .before .reply-refusal .ensures) ∙ c .if1 .left)
+
+later-requires : tie.Need-later-requires
+later-requires c κs = search needs
+
+returns-2 : tie.Need-returns-2
+unfolding replied
+returns-2 c =
+    rw
+    (eq-eqb (first (replyRules (c .before .before .before .before .before .args .near) (now (c .before .before .before .before .before .args .received)))) 0 (sym (c .before .before .before .reply-refusal .ensures) ∙ c .before .before .if1 .left)) (ap (λ (n : ℕ). record { near = record { accepted = c .before .before .before .before .before .args .near .accepted; acknowledged = n }; answer = Acknowledged n }) (c .later .ensures ∙ ap (acknowledgedAfter (c .before .before .before .before .before .args .near .acknowledged)) (c .before .u32-at .ensures)))
+
+pub take-reply-spec : {M : Type 1} → statement M
+take-reply-spec =
+    tie.close (tie.spec reply-refusal-requires returns u32-at-requires later-requires returns-2)

@@ -1,0 +1,84 @@
+// The far end: a record's arrival and the clock.
+ghost use mathlib.Core.Path.{_≡_};
+ghost use Prim.Native.Nat.{_≤_};
+ghost use lib.ListN.{length};
+ghost use Rattle.wire.specs.Bytes.{splice};
+ghost use Rattle.trunk.specs.Record.{replyOf};
+ghost use Rattle.trunk.specs.Far.{arrived, replyAfter, outputAfter, ticked};
+use crate::Arrival;
+use crate::Arrived;
+use crate::Far;
+use crate::Ticked;
+use crate::records;
+
+// Writes a reply with this count from the start of a reply buffer.
+fn put_reply(reply: &mut [u8], count: u32)
+    requires { ⌜ 5 ≤ length (now reply) ⌝ }
+    ensures { λ _. ⌜ now (reply .exit) ≡ splice 0 (replyOf count) (now (reply .entry)) ⌝ }
+{
+    wire::put_u8(reply, 0, records::REPLY_KIND);
+    wire::put_u32(reply, 1, count);
+}
+
+// A record arrives: the next number's PDU is put out and the station hears it; a repeat and an early record change nothing. Each gets a
+// reply with the count after it.
+pub fn arrive(far: Far, received: &[u8], reply: &mut [u8], out: &mut [u8]) -> Arrived
+    ensures answer { λ r. ⌜ r ≡ arrived far (now (received .entry)) (length (now (reply .entry))) (length (now (out .entry))) ⌝ }
+    ensures reply { λ _. ⌜ now (reply .exit) ≡ replyAfter far (now (received .entry)) (now (reply .entry)) (length (now (out .entry))) ⌝ }
+    ensures output { λ _. ⌜ now (out .exit) ≡ outputAfter far (now (received .entry)) (length (now (reply .entry))) (now (out .entry)) ⌝ }
+{
+    let n = records::arrival_refusal(received, reply.len(), out.len());
+    if n != 0 {
+        return Arrived {
+            far,
+            answer: Arrival::Refused(n),
+        };
+    }
+    let number = wire::u32_at(received, 1);
+    let count = far.count;
+    let station = far.station;
+    if number == count {
+        let pdu = &received[records::HEAD_SIZE..];
+        wire::copy(out, 0, pdu);
+        put_reply(reply, count + 1);
+        let heard = station::hear(station, pdu);
+        let after = heard.station;
+        return Arrived {
+            far: Far {
+                count: count + 1,
+                station: after,
+            },
+            answer: Arrival::Delivered {
+                size: pdu.len(),
+                answer: heard.answer,
+            },
+        };
+    }
+    put_reply(reply, count);
+    if number < count {
+        return Arrived {
+            far,
+            answer: Arrival::Repeat,
+        };
+    }
+    Arrived {
+        far,
+        answer: Arrival::Early,
+    }
+}
+
+// The far end's clock: its station's.
+pub fn tick(far: Far, t: u64) -> Ticked
+    ensures { λ r. ⌜ r ≡ ticked far t ⌝ }
+{
+    let station = far.station;
+    let heard = station::clock(station, t);
+    let after = heard.station;
+    Ticked {
+        far: Far {
+            count: far.count,
+            station: after,
+        },
+        answer: heard.answer,
+    }
+}
