@@ -5,7 +5,7 @@ use Prim.Native.Nat.{ℕ, _+_, _≤_, _<_}
 use mathlib.Core.Path.{_≡_, refl, sym, ap, subst, _∙_}
 use mathlib.Core.Logic.{_≢_, _⊎_, inl, inr}
 use mathlib.Core.Bool.{Bool, true, false, cond, not, and-false}
-use mathlib.Core.List.{List, [], _∷_, _++_, append-assoc}
+use mathlib.Core.List.{List, [], _∷_, _++_}
 use lib.ListN.{length, getD, take, length-append}
 use lib.Seq.{take-at, drop-at}
 use lib.Dec.{eqb}
@@ -156,11 +156,6 @@ pub record-bytes : (kind number : ℕ) (pdu : List ℕ) → Bytes pdu → Bytes 
 unfolding recordOf
 record-bytes kind number pdu b =
     bytes-append (fill headTable (kind ∷ number ∷ [])) pdu (bytes-fill headTable (kind ∷ number ∷ [])) b
-
--- a record with bytes behind it is the record of the PDU with those bytes behind it
-pub record-append : (kind number : ℕ) (pdu rest : List ℕ) → recordOf kind number pdu ++ rest ≡ recordOf kind number (pdu ++ rest)
-unfolding recordOf
-record-append kind number pdu rest = append-assoc (fill headTable (kind ∷ number ∷ [])) pdu rest
 
 -- ---- the rules on records
 

@@ -4,7 +4,7 @@
 use Prim.Native.Nat.{ℕ, _+_, _-_, _≤_, _<_}
 use mathlib.Core.Path.{_≡_, refl, sym, ap, subst, _∙_}
 use mathlib.Core.Logic.{_↔_, _≢_, inl, inr, Iff·trans}
-use mathlib.Core.Bool.{Bool, true, false, cond, not, _||_, true≢false}
+use mathlib.Core.Bool.{Bool, true, false, cond, not, true≢false}
 use mathlib.Core.List.{List, _∷_}
 use lib.ListN.{length}
 use lib.Dec.{eqb, ltb, leb}
@@ -24,12 +24,13 @@ use Rattle.pdu.proofs.TakenExactly.{reads-as, refusal-read}
 use Rattle.pdu.proofs.Carried.{taken-words}
 use Rattle.pdu.proofs.WrittenForm.{written-form-exactly}
 use Rattle.pdu.proofs.RuleLaws.{equal, at-most, below, not-below, negated, both, one-of, neither, if-so, done, _then_, Verdict, verdict}
-use Rattle.trunk.specs.Kinds.{words, transmitter, nothing, unknown, load, isUnknown, headSize, transmitterKind, replyKind, noKind, kindOf}
+use Rattle.trunk.specs.Kinds.{load, isUnknown, headSize, transmitterKind, replyKind, noKind, kindOf}
 use Rattle.trunk.specs.Record.{kindIn, numberIn, carriedIn, lastNumber, unknownKind, wrongSize, isReply, lastOfAll, wrongCarried}
 use Rattle.trunk.specs.Near.{rows, storeSize, wrongStore, offerRulesOf, offerRules, isHeld, sendRules, replyRules}
 use Rattle.trunk.specs.Far.{leastOutput, noRoom, arrivalRules}
 use Rattle.trunk.specs.Plain.{KnownKind, KindRule, LengthRule, CarriedRule, TypeRule, plainOffer, plainSend, plainReply, plainArrival}
 use Rattle.trunk.specs.declared.Near.{Near}
+use Rattle.trunk.proofs.KindLaws.{unknown-is}
 use Rattle.trunk.proofs.RecordLaws.{Sound, SoundReply}
 
 -- ---- tests that the laws of rules lack
@@ -46,14 +47,8 @@ present n = (ltb-true 0 n, lt-ltb 0 n)
 known-says : (kind : ℕ) → (isUnknown (load kind) ≡ false) ↔ KnownKind kind
 known-says kind =
     subst (λ (b : Bool). (b ≡ false) ↔ KnownKind kind)
-    (table (leb kind mostWords) (eqb kind transmitterKind) (eqb kind replyKind))
+    (sym (unknown-is kind (leb kind mostWords) (eqb kind transmitterKind) (eqb kind replyKind)))
     (negated _ (one-of _ _ (at-most kind mostWords) (one-of _ _ (equal kind transmitterKind) (equal kind replyKind))))
-  where
-    table : (a b c : Bool) → not (a || (b || c)) ≡ isUnknown (cond a (words kind) (cond b transmitter (cond c nothing unknown)))
-    table true b c = refl
-    table false true c = refl
-    table false false true = refl
-    table false false false = refl
 
 store-says : (store : List ℕ) → (wrongStore store ≡ false) ↔ (length store ≡ storeSize)
 store-says store = negated _ (equal _ _)
