@@ -1,7 +1,10 @@
-# The archive of the proved crates, the C host that links it, and the second program.
+# The archive and the programs of the proved crates, the C host that links the archive, and the
+# second program.
 
-# Another archive may be tried: make host-tests ARCHIVE=path/to/libhost.a
+# Others may be tried: make host-tests ARCHIVE=path/to/libhost.a
 ARCHIVE ?= target/staticlib/libhost.a
+LISTER ?= target/bin/lister
+REPLAY ?= target/bin/replay
 
 CC := gcc
 CFLAGS := -std=c11 -O2 -Wall -Wextra -Werror
@@ -13,24 +16,34 @@ HOST_TESTS := target/host/tests
 SECOND := target/second/second
 LINKED := target/linked-archive
 
-# What the archive is made from; must-fail edits are tried on copies.
+# What the archive and the programs are made from; must-fail edits are tried on copies.
 CRATE_FILES := $(shell find crates -type f -not -path '*/must-fail/*')
+PROGRAMS := target/bin/lister target/bin/replay
 
 MAKEFLAGS += --no-print-directory
 
-.PHONY: help run test bench clean archive host-tests compare FORCE
+.PHONY: help run test bench clean archive programs runs host-tests FORCE
+.PHONY: compare compare-records compare-lister compare-replay
 .DELETE_ON_ERROR:
 
 help:
-	@echo 'make run         build the archive and an example C host, and run it'
-	@echo 'make test        every proof, test and comparison; ends with the counts'
-	@echo 'make bench       time the archive and the second program on the same datagrams'
-	@echo 'make host-tests  the C tests of the archive alone'
-	@echo 'make compare     the comparison with the second program alone'
-	@echo 'make clean       remove all that was built'
+	@echo 'make run              an example C host, and a sample exercise over the trunk'
+	@echo 'make test             every proof, test and comparison; ends with the counts'
+	@echo 'make bench            time the archive and the second program on the same datagrams'
+	@echo 'make runs             the stored runs of the programs alone'
+	@echo 'make host-tests       the C tests of the archive alone'
+	@echo 'make compare          the archive and the second program on datagrams'
+	@echo 'make compare-records  the archive and the second program on trunk records'
+	@echo 'make compare-lister   the lister and the second program on streams of records'
+	@echo 'make compare-replay   both ends and the second program on scripts of calls'
+	@echo 'make clean            remove all that was built'
 
-run: $(EXAMPLE)
+run: $(EXAMPLE) $(SECOND) $(REPLAY)
+	@echo 'What a C host learns of datagrams and trunk records:'
 	@$(EXAMPLE)
+	@echo
+	@echo 'A sample exercise over a line that loses and repeats records:'
+	@$(SECOND) exercise | $(REPLAY) | $(SECOND) tell
 
 test:
 	@scripts/test.sh
@@ -43,22 +56,41 @@ clean:
 
 archive: $(ARCHIVE)
 
+programs: $(LISTER) $(REPLAY)
+
+runs: $(PROGRAMS)
+	@scripts/runs.sh
+
 host-tests: $(HOST_TESTS)
 	@$(HOST_TESTS)
 
 compare: $(SECOND)
 	@$(SECOND) compare
 
+compare-records: $(SECOND)
+	@$(SECOND) compare-records
+
+compare-lister: $(SECOND) $(LISTER)
+	@$(SECOND) compare-lister --lister $(LISTER)
+
+compare-replay: $(SECOND) $(REPLAY)
+	@$(SECOND) compare-replay --replay $(REPLAY)
+
 target/staticlib/libhost.a: crates.txt $(CRATE_FILES)
 	rt staticlib host
 
+# rt leaves a program as it is where no crate has changed.
+$(PROGRAMS) &: crates.txt $(CRATE_FILES)
+	rt check lister replay
+	@touch $(PROGRAMS)
+
 $(EXAMPLE): host/example.c
 $(HOST_TESTS): $(wildcard host/tests/*)
-$(EXAMPLE) $(HOST_TESTS): host/datagrams.c $(wildcard host/*.h) $(ARCHIVE) $(LINKED)
+$(EXAMPLE) $(HOST_TESTS): host/datagrams.c host/records.c $(wildcard host/*.h) $(ARCHIVE) $(LINKED)
 	@mkdir -p $(@D)
 	$(CC) $(CFLAGS) -o $@ $(filter %.c,$^) $(ARCHIVE)
 
-$(SECOND): $(wildcard second/*.rs) $(ARCHIVE) $(LINKED)
+$(SECOND): $(shell find second -name '*.rs') $(ARCHIVE) $(LINKED)
 	@mkdir -p $(@D)
 	$(RUSTC) $(RUSTFLAGS) --crate-name second -o $@ second/main.rs -C link-arg=$(ARCHIVE)
 

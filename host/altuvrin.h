@@ -1,5 +1,5 @@
 /*
- * Altuvrin: what the proved reader answers to a datagram.
+ * Altuvrin: what the proved readers answer to a datagram and to a trunk record.
  *
  *     uint64_t answer = altuvrin_datagram(bytes, length);
  *     if (altuvrin_number(answer) == ALTUVRIN_TAKEN)
@@ -21,9 +21,10 @@ extern "C" {
  * The answer numbers of reading. The first that applies is given, in this order:
  *     Transmitter  1 2 3 4 5 6 7 8 9
  *     Signal       1 2 3 4 10 11 12 8 13 14 15
+ *     record       20 21 25 22
  */
 enum altuvrin_answer {
-    /* A Link 16 Transmitter or Signal PDU; the size is that of the PDU. */
+    /* A Link 16 Transmitter or Signal PDU, or a trunk record; the size is that of the whole. */
     ALTUVRIN_TAKEN = 0,
     /* Fewer than 12 bytes. */
     ALTUVRIN_SHORT = 1,
@@ -59,7 +60,16 @@ enum altuvrin_answer {
     /* The body of message type 0 is not 6 bytes and whole words of 10. */
     ALTUVRIN_BODY_SIZE = 14,
     /* More than 12 words in message type 0, or more than 256 bytes in types 1 to 7. */
-    ALTUVRIN_BODY_LIMIT = 15
+    ALTUVRIN_BODY_LIMIT = 15,
+    /* The first byte is no kind of trunk record: not 0 to 12, 16 or 32. */
+    ALTUVRIN_RECORD_KIND = 20,
+    /* A record is empty, or not the length of its kind. */
+    ALTUVRIN_RECORD_LENGTH = 21,
+    /* The bytes after a record's number are not a PDU of its kind, as the writer gives it:
+     * a Signal of message type 0 with 0 to 12 words, or a Transmitter, its padding zero. */
+    ALTUVRIN_RECORD_PDU = 22,
+    /* A record with a PDU has the number 4,294,967,295; a reply may have it. */
+    ALTUVRIN_RECORD_NUMBER = 25
 };
 
 /*
@@ -67,6 +77,12 @@ enum altuvrin_answer {
  * empty datagram. The answer is taken apart by altuvrin_number and altuvrin_size.
  */
 uint64_t altuvrin_datagram(const uint8_t *bytes, size_t length);
+
+/*
+ * Reads `length` bytes as one trunk record: a kind, a number, and the PDU that the kind names.
+ * All else is as for altuvrin_datagram.
+ */
+uint64_t altuvrin_record(const uint8_t *bytes, size_t length);
 
 /* The number of an answer: one of altuvrin_answer. */
 static inline uint32_t altuvrin_number(uint64_t answer)

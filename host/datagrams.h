@@ -21,15 +21,18 @@ static const struct field VERSION = {0, 1};
 static const struct field PDU_TYPE = {2, 1};
 static const struct field FAMILY = {3, 1};
 static const struct field LENGTH = {8, 2};
+static const struct field PADDING = {10, 2};
 
 /* Transmitter. */
 static const struct field CATEGORY = {24, 1};
 static const struct field INPUT_SOURCE = {29, 1};
+static const struct field TRANSMITTER_PADDING = {30, 2};
 static const struct field PATTERN_LENGTH = {70, 2};
 static const struct field MAJOR = {90, 2};
 static const struct field DETAIL = {92, 2};
 static const struct field SYSTEM = {94, 2};
 static const struct field MODULATION_LENGTH = {100, 1};
+static const struct field MODULATION_PADDING = {101, 3};
 static const struct field TSA_LEVEL = {104, 1};
 static const struct field PRIMARY_MODE = {105, 1};
 static const struct field SECONDARY_MODE = {106, 1};
@@ -45,6 +48,7 @@ static const struct field NET = {34, 1};
 static const struct field TSEC = {35, 1};
 static const struct field MSEC = {36, 1};
 static const struct field MESSAGE_TYPE = {37, 1};
+static const struct field MESSAGE_TYPE_PADDING = {38, 2};
 static const struct field SLOT_ID = {40, 4};
 
 /* The values that a rule names. */

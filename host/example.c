@@ -1,7 +1,9 @@
-/* An example host: hands a few datagrams to Altuvrin and prints each answer. */
+/* An example host: hands a few datagrams and records to Altuvrin and prints each answer. */
 #include "altuvrin.h"
 #include "datagrams.h"
+#include "records.h"
 
+#include <stdbool.h>
 #include <stdio.h>
 
 static const char *const REASONS[] = {
@@ -20,16 +22,20 @@ static const char *const REASONS[] = {
     [ALTUVRIN_NETWORK_HEADER] = "network header",
     [ALTUVRIN_BODY_SIZE] = "body is not whole words",
     [ALTUVRIN_BODY_LIMIT] = "body too long",
+    [ALTUVRIN_RECORD_KIND] = "kind of record",
+    [ALTUVRIN_RECORD_LENGTH] = "length of the record",
+    [ALTUVRIN_RECORD_PDU] = "carried bytes",
+    [ALTUVRIN_RECORD_NUMBER] = "number of the record",
 };
 
 static const char *reason(uint32_t number)
 {
-    return number < COUNT(REASONS) ? REASONS[number] : "unknown number";
+    bool known = number < COUNT(REASONS) && REASONS[number] != NULL;
+    return known ? REASONS[number] : "unknown number";
 }
 
-static void show(const char *what, const struct datagram *datagram)
+static void print(const char *what, uint64_t answer)
 {
-    uint64_t answer = altuvrin_datagram(datagram->bytes, datagram->length);
     uint32_t number = altuvrin_number(answer);
 
     printf("%-32s", what);
@@ -39,10 +45,20 @@ static void show(const char *what, const struct datagram *datagram)
         printf("refused %u: %s\n", number, reason(number));
 }
 
-int main(void)
+static void show(const char *what, const struct datagram *datagram)
 {
-    static struct datagram datagram;
+    print(what, altuvrin_datagram(datagram->bytes, datagram->length));
+}
 
+static void show_record(const char *what, const struct datagram *record)
+{
+    print(what, altuvrin_record(record->bytes, record->length));
+}
+
+static struct datagram datagram;
+
+static void show_transmitters(void)
+{
     make_transmitter(&datagram);
     show("Transmitter", &datagram);
     put(&datagram, VERSION, LAST_VERSION + 1);
@@ -51,7 +67,10 @@ int main(void)
     put(&datagram, TSA_LEVEL, LAST_LEVEL_WITHOUT_ID);
     put(&datagram, SYNC_ID, 1);
     show("Transmitter, ID 1 at level 2", &datagram);
+}
 
+static void show_signals(void)
+{
     make_words(&datagram, 0);
     show("Signal of no words", &datagram);
     make_words(&datagram, WORDS_MAX);
@@ -65,8 +84,26 @@ int main(void)
     show("Signal in slot 98,304", &datagram);
     make_signal(&datagram, 1, BODY_MAX);
     show("Signal of type 1, 256 bytes", &datagram);
-
     datagram.length = START_SIZE - 1;
     show("11 bytes", &datagram);
+}
+
+static void show_records(void)
+{
+    make_record(&datagram, WORDS_MAX, 5);
+    show_record("Record 5, Signal of 12 words", &datagram);
+    put(&datagram, carried(MESSAGE_TYPE), 1);
+    show_record("Record 5, its Signal of type 1", &datagram);
+    make_record(&datagram, REPLY_KIND, 6);
+    show_record("Reply 6", &datagram);
+    datagram.length -= 1;
+    show_record("Reply 6, cut", &datagram);
+}
+
+int main(void)
+{
+    show_transmitters();
+    show_signals();
+    show_records();
     return 0;
 }

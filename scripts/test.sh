@@ -33,6 +33,11 @@ counted 'rt ci' rt ci
 shown 'rt fmt' rt fmt --check
 total=$((total + 1))
 shown 'archive' make archive
+shown 'programs' make programs
+counted 'runs' make runs
 counted 'host tests' make host-tests
 counted 'compare' make compare
+counted 'compare-records' make compare-records
+counted 'compare-lister' make compare-lister
+counted 'compare-replay' make compare-replay
 echo "$total passed, 0 failed"

@@ -1,15 +1,25 @@
 //! The proved archive, called as a C host calls it (host/altuvrin.h).
 
-use crate::read::Answer;
+use crate::pdu::read::Answer;
 
 extern "C" {
     fn altuvrin_datagram(bytes: *const u8, length: usize) -> u64;
+    fn altuvrin_record(bytes: *const u8, length: usize) -> u64;
 }
 
 /// The archive's answer to a datagram.
-pub fn answer(datagram: &[u8]) -> Answer {
+pub fn datagram(bytes: &[u8]) -> Answer {
     // SAFETY: the pointer and the length are those of a slice, which the archive only reads.
-    let answer = unsafe { altuvrin_datagram(datagram.as_ptr(), datagram.len()) };
+    unpack(unsafe { altuvrin_datagram(bytes.as_ptr(), bytes.len()) })
+}
+
+/// The archive's answer to a record.
+pub fn record(bytes: &[u8]) -> Answer {
+    // SAFETY: as for a datagram.
+    unpack(unsafe { altuvrin_record(bytes.as_ptr(), bytes.len()) })
+}
+
+fn unpack(answer: u64) -> Answer {
     Answer {
         number: (answer >> 32) as u32,
         size: answer as u32,

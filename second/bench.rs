@@ -1,8 +1,8 @@
 //! Times reading through the archive and by the second program, on the same datagrams.
 
 use crate::archive;
-use crate::generate::Generator;
-use crate::read::{self, Answer};
+use crate::generate::datagrams::Generator;
+use crate::pdu::read::{self, Answer};
 use std::hint::black_box;
 use std::time::Instant;
 
@@ -43,7 +43,7 @@ fn print_times(what: &str, datagrams: &[Vec<u8>]) {
     let mut archive_times = Vec::new();
     let mut second_times = Vec::new();
     for _ in 0..ROUNDS {
-        archive_times.push(time(datagrams, archive::answer));
+        archive_times.push(time(datagrams, archive::datagram));
         second_times.push(time(datagrams, read::answer));
     }
     let archive = median(archive_times);

@@ -9,7 +9,7 @@ pub fn encode(bytes: &[u8]) -> String {
     bytes.iter().map(|byte| format!("{byte:02x}")).collect()
 }
 
-/// Nothing where the text is not hex with two digits for each byte.
+/// Nothing where the text is not lower-case hex with two digits for each byte.
 pub fn decode(text: &str) -> Option<Vec<u8>> {
     if text == NO_BYTES {
         return Some(Vec::new());
@@ -25,5 +25,7 @@ pub fn decode(text: &str) -> Option<Vec<u8>> {
 }
 
 fn digit(character: char) -> Option<u8> {
-    character.to_digit(16).map(|value| value as u8)
+    let is_digit = !character.is_ascii_uppercase();
+    let value = character.to_digit(16).filter(|_| is_digit)?;
+    Some(value as u8)
 }

@@ -1,5 +1,5 @@
-//! The second program: reads Link 16 PDUs by its own reader, written from document 01 alone, and
-//! compares its answers with those of the proved archive.
+//! The second program: document 01 once more, written from its text alone. It compares its
+//! answers with those of the proved archive and of the proved programs.
 
 mod archive;
 mod bench;
@@ -8,21 +8,34 @@ mod check;
 mod compare;
 mod generate;
 mod hex;
-mod layout;
+mod numbers;
 mod pdu;
 mod random;
-mod read;
-mod self_check;
-mod write;
-mod writer_check;
+mod sample;
+mod trunk;
 
-use compare::Comparison;
+use compare::datagrams::DATAGRAMS;
+use compare::lister::LISTER;
+use compare::records::RECORDS;
+use compare::replay::REPLAY;
+use std::io::Read;
+use std::path::Path;
 use std::process::ExitCode;
 
 const USAGE: &str = "usage:
-  second compare [--seed S] [--count N]   compare the archive with the second program
-  second one HEX                          both answers to one datagram; - is an empty one
-  second bench                            time both on the same datagrams";
+  second compare [--seed S] [--count N]           the archive's answers to N datagrams
+  second compare-records [--seed S] [--count N]   the archive's answers to N trunk records
+  second compare-lister --lister PROGRAM [--seed S] [--count N]   a lister on N streams
+  second compare-replay --replay PROGRAM [--seed S] [--count N]   a replay on N calls
+  second compare-lister --lister PROGRAM --input FILE   a lister on one stream
+  second compare-replay --replay PROGRAM --input FILE   a replay on one script
+  second one HEX      both answers to one datagram; - is an empty one
+  second record HEX   both answers to one record; - is an empty one
+  second list         list the trunk records on standard input, as the lister does
+  second replay       make the calls on standard input, as replay does
+  second exercise     print a sample exercise, a script for replay
+  second tell         tell what the output of replay on standard input says
+  second bench        time both on the same datagrams";
 
 const DEFAULT_SEED: u64 = 1;
 const BAD_ARGUMENTS: u8 = 2;
@@ -41,11 +54,22 @@ fn main() -> ExitCode {
 
 fn run(words: &[&str]) -> Result<ExitCode, String> {
     match words {
-        ["compare", options @ ..] => Ok(comparison(options)?.run()),
-        ["one", text] => {
-            let datagram = hex::decode(text).ok_or_else(|| format!("'{text}' is not hex"))?;
-            Ok(compare::compare_one(&datagram))
+        ["compare", options @ ..] => {
+            let (seed, count) = settings(options, compare::datagrams::DEFAULT_COUNT)?;
+            Ok(compare::datagrams::run(seed, count))
         }
+        ["compare-records", options @ ..] => {
+            let (seed, count) = settings(options, compare::records::DEFAULT_COUNT)?;
+            Ok(compare::records::run(seed, count))
+        }
+        ["compare-lister", "--lister", program, rest @ ..] => compare_lister(program, rest),
+        ["compare-replay", "--replay", program, rest @ ..] => compare_replay(program, rest),
+        ["one", text] => Ok(compare::compare_one(&DATAGRAMS, &bytes(text)?)),
+        ["record", text] => Ok(compare::compare_one(&RECORDS, &bytes(text)?)),
+        ["list"] => print(trunk::lister::list(&input()?)),
+        ["replay"] => print(trunk::replay::run(&input()?)),
+        ["exercise"] => print(sample::exercise::script()),
+        ["tell"] => print(sample::tell::tell(&String::from_utf8_lossy(&input()?))?),
         ["bench"] => {
             bench::run();
             Ok(ExitCode::SUCCESS)
@@ -55,9 +79,28 @@ fn run(words: &[&str]) -> Result<ExitCode, String> {
     }
 }
 
-fn comparison(options: &[&str]) -> Result<Comparison, String> {
+fn compare_lister(program: &str, rest: &[&str]) -> Result<ExitCode, String> {
+    let program = Path::new(program);
+    if let ["--input", file] = rest {
+        return compare::compare_input(&LISTER, program, file);
+    }
+    let (seed, count) = settings(rest, compare::lister::DEFAULT_COUNT)?;
+    compare::lister::run(program, seed, count)
+}
+
+fn compare_replay(program: &str, rest: &[&str]) -> Result<ExitCode, String> {
+    let program = Path::new(program);
+    if let ["--input", file] = rest {
+        return compare::compare_input(&REPLAY, program, file);
+    }
+    let (seed, count) = settings(rest, compare::replay::DEFAULT_COUNT)?;
+    compare::replay::run(program, seed, count)
+}
+
+/// The seed and the count.
+fn settings(options: &[&str], default_count: u64) -> Result<(u64, u64), String> {
     let mut seed = DEFAULT_SEED;
-    let mut count = compare::DEFAULT_COUNT;
+    let mut count = default_count;
     for option in options.chunks(2) {
         match option {
             ["--seed", value] => seed = number(value)?,
@@ -68,10 +111,27 @@ fn comparison(options: &[&str]) -> Result<Comparison, String> {
     if count == 0 {
         return Err("--count is at least 1".to_string());
     }
-    Ok(Comparison::new(seed, count))
+    Ok((seed, count))
 }
 
 fn number(text: &str) -> Result<u64, String> {
     text.parse()
         .map_err(|_| format!("'{text}' is not a whole number"))
+}
+
+fn bytes(text: &str) -> Result<Vec<u8>, String> {
+    hex::decode(text).ok_or_else(|| format!("'{text}' is not hex"))
+}
+
+/// All of standard input.
+fn input() -> Result<Vec<u8>, String> {
+    let mut input = Vec::new();
+    let read = std::io::stdin().read_to_end(&mut input);
+    read.map_err(|error| format!("cannot read standard input: {error}"))?;
+    Ok(input)
+}
+
+fn print(text: String) -> Result<ExitCode, String> {
+    print!("{text}");
+    Ok(ExitCode::SUCCESS)
 }

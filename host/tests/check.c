@@ -25,21 +25,24 @@ void check_end(void)
         passed++;
 }
 
+/* A call of the archive. */
+typedef uint64_t call(const uint8_t *bytes, size_t length);
+
 static void print_failure(const uint8_t *bytes, size_t length, uint64_t answer, uint32_t number,
                           uint32_t size)
 {
     printf("FAILED: %s\n", current);
     printf("  expected: number %u, size %u\n", number, size);
     printf("  got:      number %u, size %u\n", altuvrin_number(answer), altuvrin_size(answer));
-    printf("  datagram: %zu bytes ", length);
+    printf("  input:    %zu bytes ", length);
     for (size_t i = 0; i < length; i++)
         printf("%02x", bytes[i]);
     printf("\n");
 }
 
-static void compare(const uint8_t *bytes, size_t length, uint32_t number, uint32_t size)
+static void compare(call *call, const uint8_t *bytes, size_t length, uint32_t number, uint32_t size)
 {
-    uint64_t answer = altuvrin_datagram(bytes, length);
+    uint64_t answer = call(bytes, length);
     if (altuvrin_number(answer) == number && altuvrin_size(answer) == size)
         return;
     if (!current_failed)
@@ -47,10 +50,20 @@ static void compare(const uint8_t *bytes, size_t length, uint32_t number, uint32
     current_failed = true;
 }
 
-void sample(const struct datagram *datagram, uint32_t number)
+static void compare_whole(call *call, const struct datagram *datagram, uint32_t number)
 {
     uint32_t size = number == ALTUVRIN_TAKEN ? (uint32_t)datagram->length : 0;
-    compare(datagram->bytes, datagram->length, number, size);
+    compare(call, datagram->bytes, datagram->length, number, size);
+}
+
+void sample(const struct datagram *datagram, uint32_t number)
+{
+    compare_whole(altuvrin_datagram, datagram, number);
+}
+
+void sample_record(const struct datagram *record, uint32_t number)
+{
+    compare_whole(altuvrin_record, record, number);
 }
 
 void check(const char *what, const struct datagram *datagram, uint32_t number)
@@ -60,11 +73,26 @@ void check(const char *what, const struct datagram *datagram, uint32_t number)
     check_end();
 }
 
+void check_record(const char *what, const struct datagram *record, uint32_t number)
+{
+    check_begin(what);
+    sample_record(record, number);
+    check_end();
+}
+
 void check_bytes(const char *what, const uint8_t *bytes, size_t length, uint32_t number,
                  uint32_t size)
 {
     check_begin(what);
-    compare(bytes, length, number, size);
+    compare(altuvrin_datagram, bytes, length, number, size);
+    check_end();
+}
+
+void check_record_bytes(const char *what, const uint8_t *bytes, size_t length, uint32_t number,
+                        uint32_t size)
+{
+    check_begin(what);
+    compare(altuvrin_record, bytes, length, number, size);
     check_end();
 }
 

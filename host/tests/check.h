@@ -24,6 +24,12 @@ void check(const char *what, const struct datagram *datagram, uint32_t number);
 void check_bytes(const char *what, const uint8_t *bytes, size_t length, uint32_t number,
                  uint32_t size);
 
+/* The same for trunk records. */
+void sample_record(const struct datagram *record, uint32_t number);
+void check_record(const char *what, const struct datagram *record, uint32_t number);
+void check_record_bytes(const char *what, const uint8_t *bytes, size_t length, uint32_t number,
+                        uint32_t size);
+
 /* Prints the counts as the last line; the status to exit with. */
 int check_report(void);
 

@@ -8,5 +8,6 @@ int main(void)
     test_fields();
     test_sizes();
     test_order();
+    test_records();
     return check_report();
 }

@@ -1,9 +1,10 @@
 /*
- * The order of refusals: of the rules that a datagram breaks, the first in the order gives the
- * number (document 01, "The numbers"). Rules are broken from the last to the first, because the
- * later ones speak of what lies deeper in the datagram.
+ * The order of refusals: of the rules that a datagram or a record breaks, the first in the order
+ * gives the number (document 01, "The numbers" and "Sizes and edges"). Rules are broken from the
+ * last to the first, because the later ones speak of what lies deeper in the bytes.
  */
 #include "../altuvrin.h"
+#include "../records.h"
 #include "check.h"
 #include "tests.h"
 
@@ -51,6 +52,21 @@ static void make_13_words(void)
     make_words(&datagram, WORDS_MAX + 1);
 }
 
+static void make_transmitter_record(void)
+{
+    make_record(&datagram, TRANSMITTER_KIND, 0);
+}
+
+static void make_record_of_12_words(void)
+{
+    make_record(&datagram, WORDS_MAX, 0);
+}
+
+static void cut_1_byte(void)
+{
+    datagram.length -= 1;
+}
+
 /* Breaks the rule of one number: by a call, or by a value in a field where there is no call. */
 struct breaker {
     uint32_t number;
@@ -59,9 +75,11 @@ struct breaker {
     uint32_t value;
 };
 
-/* A PDU kind: a valid PDU of it, and a breaker for each number in the order of refusals. */
+/* A kind of PDU or record: its check, a valid one, and a breaker for each number in the order of
+ * refusals. */
 struct kind {
     const char *name;
+    void (*check)(const char *what, const struct datagram *datagram, uint32_t number);
     void (*make)(void);
     const struct breaker *breakers;
     size_t count;
@@ -89,7 +107,7 @@ static void check_set(const struct kind *kind, uint32_t set)
         first = kind->breakers[i].number;
         length += snprintf(what + length, sizeof what - (size_t)length, " %u", first);
     }
-    check(what, &datagram, first);
+    kind->check(what, &datagram, first);
 }
 
 /* Each rule alone, with each one later rule, and with all later rules. */
@@ -117,7 +135,8 @@ static void test_transmitter_order(void)
         {ALTUVRIN_PDU_SIZE, break_size, {0, 0}, 0},
         {ALTUVRIN_MODULATION, NULL, PRIMARY_MODE, LAST_PRIMARY_MODE + 1},
     };
-    const struct kind kind = {"Transmitter", make_level_3_transmitter, breakers, COUNT(breakers)};
+    const struct kind kind = {"Transmitter", check, make_level_3_transmitter, breakers,
+                              COUNT(breakers)};
     check_order(&kind);
 }
 
@@ -136,12 +155,29 @@ static void test_signal_order(void)
         {ALTUVRIN_BODY_SIZE, break_words, {0, 0}, 0},
         {ALTUVRIN_BODY_LIMIT, make_13_words, {0, 0}, 0},
     };
-    const struct kind kind = {"Signal", make_signal_of_1_word, breakers, COUNT(breakers)};
+    const struct kind kind = {"Signal", check, make_signal_of_1_word, breakers, COUNT(breakers)};
     check_order(&kind);
+}
+
+static void test_record_order(void)
+{
+    const struct breaker breakers[] = {
+        {ALTUVRIN_RECORD_KIND, NULL, RECORD_KIND, REPLY_KIND + 1},
+        {ALTUVRIN_RECORD_LENGTH, cut_1_byte, {0, 0}, 0},
+        {ALTUVRIN_RECORD_NUMBER, NULL, RECORD_NUMBER, NO_PDU_NUMBER},
+        {ALTUVRIN_RECORD_PDU, NULL, carried(PADDING), 1},
+    };
+    const struct kind transmitter = {"Transmitter record", check_record, make_transmitter_record,
+                                     breakers, COUNT(breakers)};
+    const struct kind signal = {"Signal record", check_record, make_record_of_12_words, breakers,
+                                COUNT(breakers)};
+    check_order(&transmitter);
+    check_order(&signal);
 }
 
 void test_order(void)
 {
     test_transmitter_order();
     test_signal_order();
+    test_record_order();
 }

@@ -11,7 +11,10 @@ void test_fields(void);
 /* Lengths: of the datagram, of the data and of the body. */
 void test_sizes(void);
 
-/* Which refusal comes first where a datagram breaks several rules. */
+/* Which refusal comes first where a datagram or a record breaks several rules. */
 void test_order(void);
+
+/* Trunk records: kinds, lengths, numbers and what they carry. */
+void test_records(void);
 
 #endif

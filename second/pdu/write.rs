@@ -1,7 +1,7 @@
 //! The writer, from document 01. Fields are put in the order of their bytes.
 
+use super::*;
 use crate::bytes::Sink;
-use crate::pdu::*;
 
 /// Writes a PDU at the start of the output and answers its size; a refusal changes no byte.
 pub fn write(pdu: &Pdu, output: &mut [u8]) -> Result<usize, Refusal> {

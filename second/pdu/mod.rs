@@ -1,42 +1,11 @@
 //! Link 16 PDUs as document 01 has them: their records, the numbers of its rules, and the rules
 //! that reading and writing share (inlined by force as the reader is, see `read`).
 
-/// Why a PDU is refused, with its number in document 01, "The numbers".
-#[derive(Clone, Copy, Debug, PartialEq, Eq)]
-#[repr(u32)]
-pub enum Refusal {
-    Short = 1,
-    Version = 2,
-    TypeOrFamily = 3,
-    Length = 4,
-    Radio = 5,
-    ModulationLength = 6,
-    PatternLength = 7,
-    PduSize = 8,
-    Modulation = 9,
-    Encoding = 10,
-    TdlType = 11,
-    DataLength = 12,
-    NetworkHeader = 13,
-    BodySize = 14,
-    BodyLimit = 15,
-    Output = 16,
-}
+pub mod layout;
+pub mod read;
+pub mod write;
 
-impl Refusal {
-    pub fn number(self) -> u32 {
-        self as u32
-    }
-}
-
-#[inline(always)]
-pub fn require(holds: bool, refusal: Refusal) -> Result<(), Refusal> {
-    if holds {
-        Ok(())
-    } else {
-        Err(refusal)
-    }
-}
+use crate::numbers::{require, Refusal};
 
 // "Bytes 0 to 19, both PDUs".
 pub const VERSIONS: [u8; 2] = [5, 6];
@@ -93,6 +62,15 @@ pub struct Header {
     pub application: u16,
     pub entity: u16,
     pub radio: u16,
+}
+
+impl Header {
+    /// The unit's key: site, application, entity and radio as one number.
+    pub fn key(&self) -> u64 {
+        [self.site, self.application, self.entity, self.radio]
+            .iter()
+            .fold(0, |key, &part| key << 16 | u64::from(part))
+    }
 }
 
 /// A Transmitter's fields; floats are kept as their bits.
@@ -194,6 +172,11 @@ impl Pdu<'_> {
             Pdu::Signal(signal, _) => &signal.header,
         }
     }
+}
+
+/// The size of a body of message type 0 with this many words.
+pub const fn words_size(words: usize) -> usize {
+    WORDS_HEADER_SIZE + WORD_SIZE * words
 }
 
 /// The size of a Signal with this many data bytes.

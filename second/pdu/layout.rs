@@ -2,7 +2,7 @@
 //! "Signal"): the fields that have a rule, the padding, and the written form that comes of it.
 //! The reader and the writer do not use them, so that each is a check on the other.
 
-use crate::pdu;
+use super::{SIGNAL_FIXED_SIZE, TRANSMITTER_TYPE};
 use std::ops::Range;
 
 /// A field: its first byte, and how many bytes it has.
@@ -38,6 +38,8 @@ pub const VERSION: Field = field(0, 1);
 pub const PDU_TYPE: Field = field(2, 1);
 pub const FAMILY: Field = field(3, 1);
 pub const LENGTH: Field = field(8, 2);
+/// Site, application, entity and radio together.
+pub const KEY: Field = field(12, 8);
 
 pub const CATEGORY: Field = field(24, 1);
 pub const INPUT_SOURCE: Field = field(29, 1);
@@ -74,7 +76,7 @@ const SIGNAL_PADDING: [Field; 2] = [START_PADDING, field(38, 2)];
 /// A taken datagram as the writer gives it: padding, the fill included, as zero.
 pub fn written_form(datagram: &[u8]) -> Vec<u8> {
     let mut form = datagram.to_vec();
-    if PDU_TYPE.get(datagram) == Some(u64::from(pdu::TRANSMITTER_TYPE)) {
+    if PDU_TYPE.get(datagram) == Some(u64::from(TRANSMITTER_TYPE)) {
         clear(&mut form, &TRANSMITTER_PADDING);
     } else {
         clear(&mut form, &SIGNAL_PADDING);
@@ -95,5 +97,5 @@ fn clear_signal(bytes: &mut [u8]) {
     let slot_id = SLOT_ID.get(bytes).expect(known);
     SLOT_ID.put(bytes, slot_id & !SLOT_ID_PADDING);
     let data_bytes = DATA_LENGTH.get(bytes).expect(known) as usize / 8;
-    bytes[pdu::SIGNAL_FIXED_SIZE + data_bytes..].fill(0);
+    bytes[SIGNAL_FIXED_SIZE + data_bytes..].fill(0);
 }

@@ -1,8 +1,8 @@
 //! Datagrams for the comparison: valid ones, damaged ones and noise, chosen so that every answer
 //! of the reader occurs often, and most often close to where a rule changes its mind.
 
-use crate::layout::{self, Field};
 use crate::pdu;
+use crate::pdu::layout::{self, Field};
 use crate::random::Random;
 
 /// A field with what its rule allows: ranges, both ends included.
@@ -159,13 +159,27 @@ impl Generator {
     /// A valid Signal, its padding and fill random.
     pub fn signal(&mut self) -> Vec<u8> {
         let message_type = self.message_type();
-        let body = if message_type == 0 {
-            self.random.within(0, pdu::WORDS_MAX as u64) * pdu::WORD_SIZE as u64
-                + pdu::WORDS_HEADER_SIZE as u64
-        } else {
-            self.random.within(0, pdu::BODY_MAX as u64)
-        };
+        if message_type == 0 {
+            let words = self.random.within(0, pdu::WORDS_MAX as u64);
+            return self.signal_of_words(words as usize);
+        }
+        let body = self.random.within(0, pdu::BODY_MAX as u64);
         self.signal_of(message_type, body)
+    }
+
+    /// A valid Signal of message type 0.
+    pub fn signal_of_words(&mut self, words: usize) -> Vec<u8> {
+        self.signal_of(0, pdu::words_size(words) as u64)
+    }
+
+    /// A valid Signal of a message type from 1 to 7 that has this size, if there is one.
+    pub fn signal_of_size(&mut self, size: usize) -> Option<Vec<u8>> {
+        let message_type = self.random.within(1, u64::from(pdu::LAST_MESSAGE_TYPE));
+        let fixed = pdu::SIGNAL_FIXED_SIZE + pdu::NETWORK_HEADER_SIZE;
+        let room = size.checked_sub(fixed)? as u64;
+        let fill = self.random.below(4);
+        let signal = self.signal_of(message_type, room.saturating_sub(fill));
+        Some(signal).filter(|signal| signal.len() == size)
     }
 
     /// Type 0 as often as the others together.
@@ -192,7 +206,7 @@ impl Generator {
     /// A body size at or beside that of some words.
     fn near_words(&mut self) -> u64 {
         let words = self.random.below(pdu::WORDS_MAX as u64 + 3);
-        self.near(pdu::WORDS_HEADER_SIZE as u64 + words * pdu::WORD_SIZE as u64)
+        self.near(pdu::words_size(words as usize) as u64)
     }
 
     /// The value itself, or the one below or above it.
@@ -241,7 +255,7 @@ impl Generator {
     }
 
     /// Damages one ruled field, if the bytes have it.
-    fn damage(&mut self, bytes: &mut [u8]) {
+    pub fn damage(&mut self, bytes: &mut [u8]) {
         let own = if is_signal(bytes) {
             &self.signal
         } else {

@@ -1,12 +1,12 @@
 //! Checks that the second program's writer refuses with the right number and leaves the output
 //! as it was (document 01, "The numbers", the order of writing).
 
+use super::self_check::MARK;
 use crate::check::{Claim, Report};
-use crate::generate::Generator;
+use crate::generate::datagrams::Generator;
+use crate::pdu::read::read;
+use crate::pdu::write::write;
 use crate::pdu::*;
-use crate::read::read;
-use crate::self_check::MARK;
-use crate::write::write;
 
 /// Each rule is broken in so many records.
 const RECORDS: usize = 50;
@@ -73,7 +73,7 @@ const SIGNAL_BREAKERS: [Breaker<Signal>; 20] = [
 ];
 
 /// The largest body of type 0.
-const WORDS_SIZE_MAX: usize = WORDS_HEADER_SIZE + WORD_SIZE * WORDS_MAX;
+const WORDS_SIZE_MAX: usize = words_size(WORDS_MAX);
 
 fn set_slot(draft: &mut Draft<Signal>, epoch: u8, slot: u32) {
     draft.record.network.epoch = epoch;

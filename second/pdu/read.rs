@@ -4,27 +4,34 @@
 //! Its functions are inlined by force: where the answer alone is asked for, no record is built,
 //! and the bench holds the archive against that.
 
+use super::*;
 use crate::bytes::Source;
-use crate::pdu::*;
 
-/// What a host learns of a datagram: 0 and the PDU's size, or the refusal's number and 0.
+/// What a host learns of a datagram or a record: 0 and its size, or the refusal's number and 0.
 #[derive(Clone, Copy, Debug, PartialEq, Eq)]
 pub struct Answer {
     pub number: u32,
     pub size: u32,
 }
 
-pub fn answer(datagram: &[u8]) -> Answer {
-    match read(datagram) {
-        Ok(pdu) => Answer {
-            number: 0,
-            size: pdu.size() as u32,
-        },
-        Err(refusal) => Answer {
-            number: refusal.number(),
-            size: 0,
-        },
+impl Answer {
+    #[inline(always)]
+    pub fn of(size: Result<usize, Refusal>) -> Self {
+        match size {
+            Ok(size) => Answer {
+                number: 0,
+                size: size as u32,
+            },
+            Err(refusal) => Answer {
+                number: refusal.number(),
+                size: 0,
+            },
+        }
     }
+}
+
+pub fn answer(datagram: &[u8]) -> Answer {
+    Answer::of(read(datagram).map(|pdu| pdu.size()))
 }
 
 /// Bytes 0 to 11; the family is tested and not kept.

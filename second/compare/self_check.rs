@@ -1,12 +1,14 @@
 //! Checks of the second program on itself: its reader, its writer and the written form agree.
 
+use super::writer_check;
 use crate::check::{Claim, Report};
-use crate::generate::Generator;
-use crate::layout::{self, Field};
-use crate::pdu::{Header, Modulation, NetworkHeader, Pdu, Refusal, Signal, Transmitter};
-use crate::read::read;
-use crate::write::write;
-use crate::{hex, writer_check};
+use crate::generate::datagrams::Generator;
+use crate::hex;
+use crate::numbers::Refusal;
+use crate::pdu::layout::{self, Field};
+use crate::pdu::read::read;
+use crate::pdu::write::write;
+use crate::pdu::{Header, Modulation, NetworkHeader, Pdu, Signal, Transmitter};
 
 /// What an output holds before a write, and room past the PDU that a write leaves alone.
 pub const MARK: u8 = 0xA5;

@@ -1,0 +1,19 @@
+//! Comparisons with the proved archive and the proved programs, and the second program's checks
+//! on itself.
+
+mod answers;
+pub mod datagrams;
+mod demand3;
+mod known_cases;
+pub mod lister;
+mod outputs;
+mod program;
+pub mod records;
+pub mod replay;
+mod self_check;
+mod shrink;
+mod tally;
+mod writer_check;
+
+pub use answers::compare_one;
+pub use outputs::compare_input;

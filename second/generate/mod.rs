@@ -1,0 +1,8 @@
+//! Random inputs for the comparisons; the same seed gives the same ones.
+
+pub mod datagrams;
+pub mod line_cases;
+pub mod records;
+pub mod scripts;
+pub mod streams;
+mod traffic;

@@ -1,0 +1,280 @@
+//! Scripts for the replay program: calls on both ends over a line that loses, repeats and
+//! reorders, chosen so that every answer of the ends and of the station occurs often.
+
+use super::records::RecordGenerator;
+use super::traffic::Traffic;
+use crate::pdu::{LAST_NET, LAST_TSA_LEVEL, WORDS_MAX};
+use crate::random::Random;
+use crate::trunk::near::STORE_SIZE;
+use crate::trunk::record::{self, Kind, ACCEPTED_MAX, PDU_SIZE_MAX, REPLY_SIZE};
+use crate::trunk::replay::Replay;
+use crate::trunk::script::{Line, Outcome, BYTES_MAX};
+use crate::trunk::station::{Station, ABSENCE_LIMIT};
+
+/// How many calls a script may have.
+const LENGTHS: [u64; 5] = [10, 50, 200, 500, 1_500];
+/// Rarely does anything happen with a store of a wrong length.
+const LENGTH_WITHOUT_STORE: u64 = 40;
+/// Of every so many scripts one has invented arrivals; the others are fair.
+const UNFAIR_SHARE: u64 = 3;
+/// One lacks the end of its last line.
+const NO_END_SHARE: u64 = 8;
+/// One names a store of a wrong length, and one a store of the right length.
+const WRONG_STORE_SHARE: u64 = 24;
+const RIGHT_STORE_SHARE: u64 = 8;
+
+/// A script of any sort; the same seed gives the same one.
+pub fn script(seed: u64) -> Vec<u8> {
+    let mut draft = Draft::new(Random::new(seed));
+    draft.write();
+    draft.finish()
+}
+
+/// A script in the making, with the ends as its calls leave them.
+struct Draft {
+    random: Random,
+    traffic: Traffic,
+    records: RecordGenerator,
+    replay: Replay,
+    lines: Vec<String>,
+    /// What calls wrote up to here: records with PDUs, and replies.
+    sent: Vec<Vec<u8>>,
+    replies: Vec<Vec<u8>>,
+    /// Only such records arrive.
+    is_fair: bool,
+    /// The store has its right length.
+    has_store: bool,
+}
+
+impl Draft {
+    /// The first lines.
+    fn new(mut random: Random) -> Self {
+        let (level, net) = settings(&mut random);
+        let (station, _) = Station::new(level, net);
+        let mut draft = Draft {
+            traffic: Traffic::new(random.next(), station.net),
+            records: RecordGenerator::new(random.next()),
+            replay: Replay::new(),
+            lines: Vec::new(),
+            sent: Vec::new(),
+            replies: Vec::new(),
+            is_fair: !random.one_in(UNFAIR_SHARE),
+            has_store: !random.one_in(WRONG_STORE_SHARE),
+            random,
+        };
+        draft.add(Line::Station { level, net });
+        if !draft.has_store {
+            let wrong = [0, 1, 192, STORE_SIZE - 1, STORE_SIZE + 1, BYTES_MAX];
+            let bytes = draft.random.pick(&wrong);
+            draft.add(Line::Store(bytes));
+        } else if draft.random.one_in(RIGHT_STORE_SHARE) {
+            draft.add(Line::Store(STORE_SIZE));
+        }
+        draft
+    }
+
+    fn write(&mut self) {
+        let mut length = self.random.pick(&LENGTHS);
+        if !self.has_store {
+            length = length.min(LENGTH_WITHOUT_STORE);
+        }
+        for _ in 0..length {
+            let line = self.call();
+            self.add(line);
+        }
+    }
+
+    /// Adds a line, and makes the call.
+    fn add(&mut self, line: Line) {
+        self.lines.push(line.to_string());
+        match self.replay.call(&line) {
+            Outcome::Sent(record) => self.sent.push(record),
+            Outcome::Delivered { reply, .. } | Outcome::Repeat(reply) | Outcome::Early(reply) => {
+                self.replies.push(reply);
+            }
+            _ => {}
+        }
+    }
+
+    /// The script's text.
+    fn finish(mut self) -> Vec<u8> {
+        let mut text = self.lines.join("\n").into_bytes();
+        if !self.random.one_in(NO_END_SHARE) {
+            text.push(b'\n');
+        }
+        text
+    }
+
+    /// Any call; rarely one for which there is nothing yet.
+    fn call(&mut self) -> Line {
+        let can_send = !self.replay.near.held().is_empty() || !self.has_store;
+        let can_arrive = !self.is_fair || !self.sent.is_empty();
+        let can_reply = !self.is_fair || !self.replies.is_empty();
+        match self.random.below(32) {
+            0..=9 if can_send => self.send(),
+            10..=20 if can_arrive => self.far(),
+            21..=25 if can_reply => self.near(),
+            26 => self.clock(),
+            27 if self.random.one_in(8) => self.send(),
+            _ => self.offer(),
+        }
+    }
+
+    fn offer(&mut self) -> Line {
+        let mut datagram = self.traffic.datagram();
+        datagram.truncate(BYTES_MAX);
+        Line::Offer(datagram)
+    }
+
+    fn send(&mut self) -> Line {
+        let number = self.number_to_send();
+        let whole = Line::Send {
+            number,
+            room: BYTES_MAX,
+        };
+        let size = match self.replay.call(&whole) {
+            Outcome::Sent(record) => record.len(),
+            _ => 1,
+        };
+        Line::Send {
+            number,
+            room: self.room(size),
+        }
+    }
+
+    /// Most often one that is held, and the one that the far end waits for.
+    fn number_to_send(&mut self) -> u32 {
+        let near = self.replay.near;
+        let wanted = self.replay.far.delivered;
+        let near_held = near.acknowledged.wrapping_sub(1);
+        match self.random.below(16) {
+            0 => self.random.pick(&[near_held, near.accepted, ACCEPTED_MAX]),
+            1..=11 if near.held().contains(&wanted) => wanted,
+            _ if near.held().is_empty() => wanted,
+            _ => near.acknowledged + self.random.below(near.held().len() as u64) as u32,
+        }
+    }
+
+    /// Most often just enough; sometimes too little, sometimes more.
+    fn room(&mut self, enough: usize) -> usize {
+        match self.random.below(24) {
+            0 => enough - 1,
+            1 => self.random.below(enough as u64) as usize,
+            2..=6 => self.random.within(enough as u64, BYTES_MAX as u64) as usize,
+            _ => enough,
+        }
+    }
+
+    fn far(&mut self) -> Line {
+        let record = if !self.is_fair && (self.random.one_in(3) || self.sent.is_empty()) {
+            self.invent_for_far()
+        } else if self.random.one_in(32) && !self.replies.is_empty() {
+            pick_recent(&mut self.random, &self.replies)
+        } else {
+            pick_recent(&mut self.random, &self.sent)
+        };
+        Line::Far {
+            record,
+            room: self.room(PDU_SIZE_MAX),
+            reply_room: self.room(REPLY_SIZE),
+        }
+    }
+
+    fn near(&mut self) -> Line {
+        let record = if !self.is_fair && (self.random.one_in(3) || self.replies.is_empty()) {
+            self.invent_for_near()
+        } else if self.random.one_in(16) && !self.sent.is_empty() {
+            pick_recent(&mut self.random, &self.sent)
+        } else {
+            pick_recent(&mut self.random, &self.replies)
+        };
+        Line::Near(record)
+    }
+
+    /// A record that the far end may take for the next, or nearly so, or any at all.
+    fn invent_for_far(&mut self) -> Vec<u8> {
+        let next = self.replay.far.delivered;
+        let number = self
+            .random
+            .pick(&[next, next, next.wrapping_sub(1), next + 1]);
+        let words = self.random.within(0, WORDS_MAX as u64) as usize;
+        let kind = self.random.pick(&[Kind::Transmitter, Kind::Signal(words)]);
+        match self.random.below(8) {
+            0 | 1 => self.records.of(kind, number),
+            2 => self.records.of(kind, ACCEPTED_MAX),
+            3 => record::head(Kind::Reply, number).to_vec(),
+            4 => Vec::new(),
+            5 if !self.sent.is_empty() => {
+                let mut record = pick_recent(&mut self.random, &self.sent);
+                self.records.damage(&mut record);
+                record
+            }
+            _ => self.records.record(),
+        }
+    }
+
+    /// A reply that the near end may take, or nearly so, or any record at all.
+    fn invent_for_near(&mut self) -> Vec<u8> {
+        let near = self.replay.near;
+        let last = near.accepted;
+        let numbers = [near.acknowledged, last, last + 1, last + 9, ACCEPTED_MAX];
+        let number = self.random.pick(&numbers);
+        match self.random.below(8) {
+            0..=3 => record::head(Kind::Reply, number).to_vec(),
+            4 => Vec::new(),
+            5 => {
+                let mut reply = record::head(Kind::Reply, number).to_vec();
+                self.records.damage(&mut reply);
+                reply
+            }
+            _ => self.records.record(),
+        }
+    }
+
+    /// Steps of the clock; small ones where the units are many, so that they fill the places.
+    fn clock(&mut self) -> Line {
+        let station = &self.replay.far.station;
+        let now = station.clock;
+        let units: Vec<u64> = station
+            .places
+            .iter()
+            .flatten()
+            .map(|unit| unit.last)
+            .collect();
+        let step = match self.random.below(16) {
+            0..=2 => return Line::Clock(now.saturating_sub(self.random.within(1, 100))),
+            _ if self.traffic.is_crowded() && !self.random.one_in(8) => self.random.below(3),
+            3 | 4 if !units.is_empty() => {
+                let edge = self.random.pick(&[ABSENCE_LIMIT - 1, ABSENCE_LIMIT]);
+                return Line::Clock(self.random.pick(&units).saturating_add(edge));
+            }
+            5 => self.random.within(ABSENCE_LIMIT - 10, ABSENCE_LIMIT + 10),
+            6 if self.random.one_in(16) => self.random.next(),
+            _ => self.random.within(0, 8),
+        };
+        Line::Clock(now.saturating_add(step))
+    }
+}
+
+/// A station's level and net; rarely one that it cannot have.
+fn settings(random: &mut Random) -> (u8, u8) {
+    let level = random.within(0, LAST_TSA_LEVEL.into()) as u8;
+    let net = random.within(0, LAST_NET.into()) as u8;
+    match random.below(32) {
+        0 => (LAST_TSA_LEVEL + 1, net),
+        1 => (level, LAST_NET + 1),
+        2 => (random.next() as u8, random.next() as u8),
+        _ => (level, net),
+    }
+}
+
+/// One of the records, most often the last, or one of the last few.
+fn pick_recent(random: &mut Random, records: &[Vec<u8>]) -> Vec<u8> {
+    let back = match random.below(8) {
+        0..=4 => 0,
+        5 | 6 => random.below(8) as usize,
+        _ => random.below(records.len() as u64) as usize,
+    };
+    let back = back.min(records.len() - 1);
+    records[records.len() - 1 - back].clone()
+}

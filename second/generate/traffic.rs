@@ -1,0 +1,115 @@
+//! The traffic of a few units, as a station hears it: chosen so that each of the station's answers
+//! occurs often.
+
+use super::datagrams::Generator;
+use crate::pdu::{self, layout, WORDS_MAX};
+use crate::random::Random;
+use crate::trunk::station::{COARSE_ENTRY_LEVEL, NETWORK_TIME, NO_ID, PLACES, PPLI_LABEL};
+use crate::trunk::word::Word;
+
+/// Where the first word of a Signal begins.
+const FIRST_WORD: usize =
+    pdu::SIGNAL_FIXED_SIZE + pdu::NETWORK_HEADER_SIZE + pdu::WORDS_HEADER_SIZE;
+
+pub struct Traffic {
+    random: Random,
+    datagrams: Generator,
+    /// The net of most Signals.
+    net: u8,
+    keys: Vec<u64>,
+    ids: [u32; 3],
+    /// The level of all units, if they have one in common.
+    level: Option<u8>,
+}
+
+impl Traffic {
+    pub fn new(seed: u64, net: u8) -> Self {
+        let mut random = Random::new(seed);
+        let units = random.pick(&[1, 2, 4, PLACES + 4]);
+        let keys = std::iter::repeat_with(|| random.next()).take(units);
+        let keys = keys.collect();
+        Traffic {
+            datagrams: Generator::new(random.next()),
+            net,
+            keys,
+            ids: [NO_ID, random.next() as u32, 1],
+            level: Some(COARSE_ENTRY_LEVEL).filter(|_| random.one_in(3)),
+            random,
+        }
+    }
+
+    /// There are more units than a station has places.
+    pub fn is_crowded(&self) -> bool {
+        self.keys.len() > PLACES
+    }
+
+    /// A datagram of any sort; most are PDUs of the units.
+    pub fn datagram(&mut self) -> Vec<u8> {
+        match self.random.below(16) {
+            0 | 1 => self.datagrams.datagram(),
+            2 => self.datagrams.signal(),
+            _ => self.pdu(),
+        }
+    }
+
+    fn pdu(&mut self) -> Vec<u8> {
+        let transmitters = if self.is_crowded() { 6 } else { 3 };
+        let mut bytes = if self.random.below(10) < transmitters {
+            self.transmitter()
+        } else {
+            self.signal()
+        };
+        if !self.random.one_in(16) {
+            layout::KEY.put(&mut bytes, self.random.pick(&self.keys));
+        }
+        bytes
+    }
+
+    /// Of any unit; most are fine.
+    fn transmitter(&mut self) -> Vec<u8> {
+        let mut bytes = self.datagrams.transmitter();
+        if let Some(level) = self.level {
+            layout::TSA_LEVEL.put(&mut bytes, level.into());
+        }
+        let last_without = u64::from(pdu::LAST_LEVEL_WITHOUT_ID);
+        if layout::TSA_LEVEL.get(&bytes) > Some(last_without) {
+            layout::SYNC_ID.put(&mut bytes, self.random.pick(&self.ids).into());
+        }
+        if !self.random.one_in(4) {
+            layout::SYNC_STATE.put(&mut bytes, pdu::FINE.into());
+        }
+        bytes
+    }
+
+    /// Of any unit; most are on the station's net.
+    fn signal(&mut self) -> Vec<u8> {
+        let words = self.random.within(0, WORDS_MAX as u64);
+        let mut bytes = self.datagrams.signal_of_words(words as usize);
+        if !self.random.one_in(12) {
+            layout::NET.put(&mut bytes, self.net.into());
+        }
+        if let Some(word) = bytes[FIRST_WORD..].first_chunk_mut() {
+            self.first_word().put(word);
+        }
+        bytes
+    }
+
+    fn first_word(&mut self) -> Word {
+        let (label, sublabel) = NETWORK_TIME;
+        let any = self.random.next() as u8;
+        match self.random.below(12) {
+            0..=2 => Word::initial(label, sublabel),
+            3..=6 => Word::initial(PPLI_LABEL, any % 8),
+            7 => Word::initial(label, 1 + any % 7),
+            8 => Word {
+                format: 1 + any % 3,
+                ..Word::initial(label, sublabel)
+            },
+            9 => Word {
+                format: 1 + any % 3,
+                ..Word::initial(PPLI_LABEL, sublabel)
+            },
+            _ => Word::initial(any % 32, any / 32),
+        }
+    }
+}

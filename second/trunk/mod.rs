@@ -1,0 +1,11 @@
+//! The station, the trunk's records and its two ends, from document 01; and the two programs that
+//! show them, the lister and replay.
+
+pub mod far;
+pub mod lister;
+pub mod near;
+pub mod record;
+pub mod replay;
+pub mod script;
+pub mod station;
+pub mod word;
