@@ -9,8 +9,11 @@ ghost use Rattle.host.specs.Answer.{packed};
 pub extern "C" fn altuvrin_datagram(bytes: &[u8]) -> u64
     ensures { λ r. ⌜ r ≡ packed (numberOf (reading (now (bytes .entry)))) (sizeOf (reading (now (bytes .entry)))) ⌝ }
 {
-    let answer = pdu::read(bytes);
-    pdu::number(answer) as u64 * 4294967296 + pdu::size(answer) as u64
+    let n = pdu::reading_refusal(bytes);
+    if n != 0 {
+        return n as u64 * 4294967296;
+    }
+    bytes.len() as u64
 }
 
 // The answer number and size for a trunk record, as the lister's check gives them.

@@ -18,14 +18,14 @@ use Rattle.wire.proofs.FirstLaws.{first-next, unbroken}
 use Rattle.pdu.specs.Numbers
 use Rattle.pdu.specs.Records.{signalSize, transmitterOf, signalOf}
 use Rattle.pdu.specs.Words.{wordsIn, wholeWords}
-use Rattle.pdu.specs.Reading.{wrongVersion, wrongSync, networkRules, bodyRules, bodySize, bodyOf, refusal, reading}
+use Rattle.pdu.specs.Reading.{wrongVersion, wrongSync, networkRules, bodyRules, bodySize, bodyOf, refusal, reading, sizeOf}
 use Rattle.pdu.specs.Writing.{transmitterWriting, signalWriting}
 use Rattle.pdu.specs.declared.Transmitter.{Transmitter}
 use Rattle.pdu.specs.declared.Signal.{Signal}
 use Rattle.pdu.specs.declared.Reading.{Reading}
 use Rattle.pdu.proofs.WritingLaws.{inner-body, inner-numbered}
 use Rattle.pdu.proofs.TakenExactly.{reads-as}
-use Rattle.pdu.proofs.ByTable.{TransmitterTaken, SignalTaken, networkRefusal, taken, transmitter-type, signal-type}
+use Rattle.pdu.proofs.ByTable.{TransmitterTaken, SignalTaken, taken, transmitter-type, signal-type, transmitter-reading, signal-reading}
 use Rattle.pdu.proofs.RoundTrip.{body-length}
 
 -- an answer other than a refusal: the datagram is taken
@@ -106,3 +106,14 @@ taken-words d s n e z =
     subst₂ (λ (x : Signal) (m : ℕ). first (bodyRules (x .network .«message_type») m) ≡ 0) (sym (same .2)) (sym (same .3))
     (inner-body network (network .«message_type») (bodySize d) (as-signal d s n e .rules)) in
     whole n (subst (λ (k : ℕ). first (bodyRules k n) ≡ 0) z rules)
+
+-- the size answered for a taken datagram is its own length, and for a refused one it is 0
+pub taken-size : (d : List ℕ) → refusal d ≡ 0 → sizeOf (reading d) ≡ length d
+taken-size d e = go (taken d e)
+  where
+    go : TransmitterTaken d ⊎ SignalTaken d → sizeOf (reading d) ≡ length d
+    go (inl h) = ap sizeOf (transmitter-reading d h) ∙ sym (h .size)
+    go (inr h) = ap sizeOf (signal-reading d h) ∙ sym (h .size)
+
+pub refused-size : (d : List ℕ) → (refusal d ≡ 0 → ⊥) → sizeOf (reading d) ≡ 0
+refused-size d h = ap sizeOf (reads-as d (Reading.Refused (refusal d)) .1 (refl, h))

@@ -115,7 +115,7 @@ pub enum Word {
 }
 
 // The number of the first rule of reading that is broken, or 0 where the datagram is taken.
-fn reading_refusal(d: &[u8]) -> u8
+pub fn reading_refusal(d: &[u8]) -> u8
     ensures { λ r. ⌜ r ≡ refusal (now (d .entry)) ⌝ }
 {
     if d.len() < common::SHORTEST {

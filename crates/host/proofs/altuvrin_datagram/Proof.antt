@@ -1,17 +1,17 @@
--- `altuvrin_datagram` meets its contract: number and size are those of what reading answered.
+-- `altuvrin_datagram` meets its contract: the refusal number is the answer's (`refusal-read`), and a taken datagram's size is its own length
+-- (`taken-size`).
 -- Assumes nothing.
-use mathlib.Core.Path.{ap, ap₂, _∙_}
+use mathlib.Core.Path.{sym, _∙_}
+use denote.Ref.{now}
+use native.Mathlib.Omega.{arith}
 use borrow.Author.Needs.{needs}
-use Rattle.pdu.specs.Reading.{numberOf, sizeOf}
-use Rattle.host.specs.Answer.{packed}
+use Rattle.pdu.proofs.Carried.{taken-size, refused-size}
+use Rattle.pdu.proofs.TakenExactly.{refusal-read}
 use Rattle.host.proofs.altuvrin_datagram.Statement.{statement}
 use Rattle.host.proofs.altuvrin_datagram.Tie as tie
 
-read-requires : tie.Need-read-requires
-read-requires c κs = search needs
-
-number-requires : tie.Need-number-requires
-number-requires c κs = search needs
+reading-refusal-requires : tie.Need-reading-refusal-requires
+reading-refusal-requires c κs = search needs
 
 cast-result : tie.Need-cast-result
 cast-result c = search needs
@@ -19,30 +19,12 @@ cast-result c = search needs
 mul-result : tie.Need-mul-result
 mul-result c = search needs
 
-size-requires : tie.Need-size-requires
-size-requires c κs = search needs
-
-cast-result-2 : tie.Need-cast-result-2
-cast-result-2 c = search needs
-
-add-result : tie.Need-add-result
-add-result c = search needs
-
 returns : tie.Need-returns
-returns c =
-    ap₂ packed
-    (c .before .number .ensures ∙ ap numberOf (c .before .before .read .ensures))
-    (c .size .ensures ∙ ap sizeOf (c .before .before .read .ensures))
+returns c = omega (arith, c .before .reading-refusal .ensures, refusal-read (now (c .before .before .before .args .bytes)), refused-size (now (c .before .before .before .args .bytes)) (λ e. c .if1 .taken (c .before .reading-refusal .ensures ∙ e)))
+
+returns-2 : tie.Need-returns-2
+returns-2 c = omega (arith, refusal-read (now (c .before .before .before .args .bytes)), (sym (c .before .reading-refusal .ensures) ∙ c .if1 .left), taken-size (now (c .before .before .before .args .bytes)) (sym (c .before .reading-refusal .ensures) ∙ c .if1 .left))
 
 pub altuvrin-datagram-spec : {M : Type 1} → statement M
 altuvrin-datagram-spec =
-    tie.close
-    (tie.spec
-    read-requires
-    number-requires
-    cast-result
-    mul-result
-    size-requires
-    cast-result-2
-    add-result
-    returns)
+    tie.close (tie.spec reading-refusal-requires cast-result mul-result returns returns-2)
