@@ -3,7 +3,7 @@
 -- Assumes nothing.
 use Prim.Native.Nat.{ℕ, _+_, _≤_, _<_, max}
 use mathlib.Core.Path.{_≡_, refl, sym, ap, ap₂, subst, _∙_}
-use mathlib.Core.List.{List, [], _∷_, _++_, List·Memᴰ, List·Memᴰ·not-nil}
+use mathlib.Core.List.{List, [], _∷_, _++_, List·Memᴰ, List·Memᴰ·not-nil, Memᴰ·append-right}
 use lib.ListN.{length, take, drop}
 use lib.Seq.{take-at}
 use native.Mathlib.Omega.{arith}
@@ -129,6 +129,7 @@ start-stands station store =
                 };
             held = record { carried = λ i l. absurd (omega arith); whole = λ l. absurd (omega arith); stored = λ i held l. absurd (omega arith) };
             known = λ r w. absurd (List·Memᴰ·not-nil w);
+            recorded = λ i l. absurd (omega arith);
             in-order = refl;
             played = record { stands = refl; answered = refl };
           };
@@ -157,6 +158,9 @@ stands-demand l s =
           ap (λ (r : List ℕ). replied (l .near) r .near .acknowledged) (answer .reply-is)
           ∙ acknowledged-next h (answer .number) (omega (arith, h .counts .acknowledged-put-out, answer .above)) (answer .accepted)
           ∙ answer .at-count refl;
+      next-fair = λ more reply out fits room.
+          let answer = replied-next h (count (l .log)) reply out more (omega arith) fits room in
+          (h .recorded (count (l .log)) more, (Memᴰ·append-right (written (l .log)) (answer .written), tt));
     }
 
 -- for every fair list of calls, from a fresh near end, any store, and a fresh far end, its station of any settings

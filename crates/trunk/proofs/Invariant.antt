@@ -5,7 +5,7 @@ use Prim.Native.Nat.{ℕ, _+_, _≤_, _<_, max}
 use mathlib.Core.Path.{_≡_, refl, sym, ap, ap₂, subst, subst₂, _∙_}
 use mathlib.Core.Logic.{_≢_, inl, inr}
 use mathlib.Core.Bool.{Bool, true, false}
-use mathlib.Core.List.{List, [], _∷_, _++_, List·Memᴰ, List·Memᴰ·append-cases, List·Memᴰ·eq-of-singleton}
+use mathlib.Core.List.{List, [], _∷_, _++_, List·Memᴰ, List·Memᴰ·head, List·Memᴰ·append-cases, List·Memᴰ·eq-of-singleton, Memᴰ·append-left, Memᴰ·append-right}
 use lib.ListN.{length, getD, take, drop, length-append, List·getD-append}
 use lib.Seq.{length-sets, take-at, take-suc, take-append-le, getD-append-seam}
 use lib.Dec.{ltb}
@@ -74,6 +74,7 @@ pub record Holds (station : Station) (near : Near) (store : List ℕ) (far : Far
   pub counts : Counts near (far .count) (length (v .pdus)) (v .confirmed) (length (v .out))
   pub held : Held store (v .pdus) (v .confirmed)
   pub known : (r : List ℕ) → List·Memᴰ r (v .records) → Known (v .pdus) (length (v .out)) r
+  pub recorded : (i : ℕ) → i < length (v .pdus) → List·Memᴰ (recordIn (v .pdus) i) (v .records)
   pub in-order : v .out ≡ take (length (v .out)) (v .pdus)
   pub played : Played station (far .station) (v .calls) (v .said)
 
@@ -133,6 +134,7 @@ module _ {station : Station} {near : Near} {store : List ℕ} {far : Far} {v : S
         counts = h .counts;
         held = h .held;
         known = known-also (v .pdus) (v .records) (length (v .out)) r (h .known) new;
+        recorded = λ i l. Memᴰ·append-left (r ∷ []) (h .recorded i l);
         in-order = h .in-order;
         played = h .played;
       }
@@ -164,6 +166,15 @@ module _ {station : Station} {near : Near} {store : List ℕ} {far : Far} {v : S
         each-more (v .pdus) (writtenForm d) (λ (i : ℕ). Carried (getD (v .pdus ++ (writtenForm d ∷ [])) i []))
         (λ i l. subst Carried (sym (old-pdu (v .pdus) (writtenForm d) i l)) (h .held .carried i l))
         (subst Carried (sym (new-pdu (v .pdus) (writtenForm d))) (form .0))
+
+    offer-recorded : (i : ℕ) → i < length (v .pdus ++ (writtenForm d ∷ [])) → List·Memᴰ (recordIn (v .pdus ++ (writtenForm d ∷ [])) i) (v .records ++ (offerRecord near d ∷ []))
+    offer-recorded =
+        each-more (v .pdus) (writtenForm d) (λ (i : ℕ). There i (recordIn (v .pdus ++ (writtenForm d ∷ [])) i))
+        (λ i l. subst (λ (q : List ℕ). There i (recordFor i q)) (sym (old-pdu (v .pdus) (writtenForm d) i l)) (Memᴰ·append-left (offerRecord near d ∷ []) (h .recorded i l)))
+        (Memᴰ·append-right (v .records) (List·Memᴰ·head (sym stored-record)))
+      where
+        There : ℕ → List ℕ → Type 0
+        There i r = List·Memᴰ r (v .records ++ (offerRecord near d ∷ []))
 
     offer-stored : (i : ℕ) → i < length (v .pdus ++ (writtenForm d ∷ [])) → v .confirmed ≤ i → RowHolds (splice (rowStart (near .accepted)) (offerRecord near d) store) i (recordIn (v .pdus ++ (writtenForm d ∷ [])) i)
     offer-stored = each-more (v .pdus) (writtenForm d) (λ (i : ℕ). v .confirmed ≤ i → Row i (recordIn (v .pdus ++ (writtenForm d ∷ [])) i)) old new
@@ -207,6 +218,7 @@ module _ {station : Station} {near : Near} {store : List ℕ} {far : Far} {v : S
               known-also (v .pdus ++ (writtenForm d ∷ [])) (v .records) (length (v .out)) (offerRecord near d)
               (λ r w. known-more (v .pdus) (length (v .out)) (writtenForm d) r (h .known r w))
               (pdu-record (length (v .pdus)) (omega (arith, one-more)) stored-record);
+          recorded = offer-recorded;
           in-order = h .in-order ∙ sym (take-append-le (length (v .out)) (v .pdus) (writtenForm d ∷ []) (c .put-out-accepted));
           played = h .played;
         }
@@ -268,6 +280,7 @@ module _ {station : Station} {near : Near} {store : List ℕ} {far : Far} {v : S
               stored = λ i held l. h .held .stored i (omega (arith, held)) l;
             };
         known = h .known;
+        recorded = h .recorded;
         in-order = h .in-order;
         played = h .played;
       }
@@ -325,6 +338,7 @@ module _ {station : Station} {near : Near} {store : List ℕ} {far : Far} {v : S
             known-also (v .pdus) (v .records) _ (replyOf (far .count + 1))
             (λ x w. known-later (v .pdus) k _ x (omega (arith, one-more)) (h .known x w))
             (reply-record (far .count + 1) (omega (arith, one-more, c .far-count)) refl);
+        recorded = λ i l. Memᴰ·append-left (replyOf (far .count + 1) ∷ []) (h .recorded i l);
         in-order =
             ap₂ (λ (l : List (List ℕ)) (x : List ℕ). l ++ (x ∷ [])) (h .in-order) pdu
             ∙ sym (take-suc (v .pdus) k [] this)
@@ -336,4 +350,4 @@ module _ {station : Station} {near : Near} {store : List ℕ} {far : Far} {v : S
 
   pub clock-keeps : (t : ℕ) → Holds station near store (record { count = far .count; station = clocked (far .station) t .station }) (timing v (time t) (clocked (far .station) t .answer))
   clock-keeps t =
-      record { counts = h .counts; held = h .held; known = h .known; in-order = h .in-order; played = station-next (time t) }
+      record { counts = h .counts; held = h .held; known = h .known; recorded = h .recorded; in-order = h .in-order; played = station-next (time t) }

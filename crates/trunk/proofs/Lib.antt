@@ -12,5 +12,6 @@ pub mod Invariant
 pub mod Progress
 pub mod Demand3
 pub mod Consequences
+pub mod Alternating
 pub mod Retry
 pub mod Example

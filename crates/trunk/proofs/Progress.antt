@@ -5,7 +5,7 @@
 use Prim.Native.Nat.{ℕ, _+_, _≤_, _<_, max}
 use mathlib.Core.Path.{_≡_, refl, sym, ap, subst, _∙_}
 use mathlib.Core.Logic.{inl, inr}
-use mathlib.Core.List.{List, [], _∷_}
+use mathlib.Core.List.{List, [], List·Memᴰ, List·Memᴰ·head}
 use lib.ListN.{length, getD, take, drop}
 use native.Mathlib.Omega.{arith}
 use Rattle.wire.specs.Bytes.{Bytes}
@@ -37,7 +37,7 @@ pub record Replied (pdus : List (List ℕ)) (k i : ℕ) (o : Arrived) (reply out
   pub accepted : number ≤ length pdus
   pub at-count : i ≡ k → number ≡ k + 1
   pub reply-is : take headSize reply ≡ replyOf number
-  pub written : writtenBy (record-heard (recordIn pdus i) (o .answer) reply out) ≡ replyOf number ∷ []
+  pub written : List·Memᴰ (take headSize reply) (writtenBy (record-heard (recordIn pdus i) (o .answer) reply out))
 
 module _ {station : Station} {near : Near} {store : List ℕ} {far : Far} {v : Seen} (h : Holds station near store far v) where
   -- a number that is held is sent, where there is room for a row
@@ -85,7 +85,7 @@ module _ {station : Station} {near : Near} {store : List ℕ} {far : Far} {v : S
             accepted = omega (arith, e, number);
             at-count = λ same. ap (λ (n : ℕ). n + 1) (h .counts .far-count);
             reply-is = reply-is;
-            written = ap (λ (x : List ℕ). x ∷ []) reply-is;
+            written = List·Memᴰ·head refl;
           }
       by (arrival-repeat m e) =
           let reply-is = reply-written (far .count) (drop headSize reply) in
@@ -95,7 +95,7 @@ module _ {station : Station} {near : Near} {store : List ℕ} {far : Far} {v : S
             accepted = omega (arith, h .counts .far-count, h .counts .put-out-accepted);
             at-count = λ same. absurd (omega (arith, e, number, h .counts .far-count));
             reply-is = reply-is;
-            written = ap (λ (x : List ℕ). x ∷ []) reply-is;
+            written = List·Memᴰ·head refl;
           }
       by (arrival-early m e) = absurd (omega (arith, e, number, h .counts .far-count))
 

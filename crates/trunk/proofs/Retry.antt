@@ -86,9 +86,8 @@ module _ (buffer reply out : List ℕ) (long : rowSize ≤ length buffer) (fits 
       ap (λ (r : List ℕ). replied (l .near) r .near .acknowledged) (answer .reply-is)
       ∙ acknowledged-next h (answer .number) (omega (arith, answer .above)) (answer .accepted) in
       let sent-there = just-sent a (sentOut (l .near) (l .store) a buffer) (sending .0) (sending .1) in
-      let reply-there = subst (List·Memᴰ _) (sym (answer .written)) (List·Memᴰ·head (answer .reply-is)) in
       record {
-        fair = (tt, (Memᴰ·append-right (written (l .log)) sent-there, (Memᴰ·append-right (written (step l (send a buffer) .log)) reply-there, tt)));
+        fair = (tt, (Memᴰ·append-right (written (l .log)) sent-there, (Memᴰ·append-right (written (step l (send a buffer) .log)) (answer .written), tt)));
         same = append-nil _ ∙ append-nil _ ∙ append-nil (accepted (l .log));
         further = omega (arith, acknowledging, answer .above);
       }

@@ -10,7 +10,7 @@ use Rattle.trunk.specs.Kinds.{kindOf, headSize}
 use Rattle.trunk.specs.Record.{recordOf, replyOf}
 use Rattle.trunk.specs.Near.{rows}
 use Rattle.trunk.specs.Far.{leastOutput, replyAfter}
-use Rattle.trunk.specs.Line.{Entry, offer-made, send-made, reply-heard, record-heard, clock-set, Line, to-near, to-far, run, accepted, putOut, acknowledged, events, stationSaid}
+use Rattle.trunk.specs.Line.{Entry, offer-made, send-made, reply-heard, record-heard, clock-set, Call, to-near, to-far, Line, run, accepted, putOut, acknowledged, events, stationSaid, Fair}
 use Rattle.trunk.specs.declared.Offer.the-variants.{Refused as offerRefused, Taken}
 use Rattle.trunk.specs.declared.Sent.the-variants.{Refused as sendRefused, Size}
 use Rattle.trunk.specs.declared.Reply.the-variants.{Refused as replyRefused, Acknowledged}
@@ -26,6 +26,13 @@ recordAt log i = recordOf (kindOf (reading (pduAt log i))) i (pduAt log i)
 -- k: "k counts them", the PDUs put out
 abbrev pub count : List Entry → ℕ
 count log = length (putOut log)
+
+-- record k handed over with these lent buffers, and the reply that it leaves next
+abbrev pub handover : Line → List ℕ → List ℕ → List Call
+handover l reply out =
+    to-far (recordAt (l .log) (count (l .log))) reply out
+    ∷ to-near (take headSize (replyAfter (l .far) (recordAt (l .log) (count (l .log))) reply (length out)))
+    ∷ []
 
 -- the numbers in an answer and in a written record are those of the log: an offer's number, a send's record and size, a reply's count, a
 -- delivered PDU's size, and the count in each reply written
@@ -75,10 +82,11 @@ pub record Demand3 (station : Station) (l : Line) : Type 0 where
       → (reply out : List ℕ)
       → headSize ≤ length reply
       → leastOutput ≤ length out
-      → run l
-      (to-far (recordAt (l .log) (count (l .log))) reply out
-      ∷ to-near (take headSize (replyAfter (l .far) (recordAt (l .log) (count (l .log))) reply (length out)))
-      ∷ [])
-      .near
-      .acknowledged
-      ≡ count (l .log) + 1
+      → run l (handover l reply out) .near .acknowledged ≡ count (l .log) + 1
+  -- and both were written by calls, so that handing them over goes on with a fair list
+  pub next-fair :
+      count (l .log) < length (accepted (l .log))
+      → (reply out : List ℕ)
+      → headSize ≤ length reply
+      → leastOutput ≤ length out
+      → Fair l (handover l reply out)
