@@ -18,7 +18,7 @@ use Rattle.pdu.proofs.RuleLaws.{Verdict}
 use Rattle.trunk.specs.Kinds.{headSize, recordSize}
 use Rattle.trunk.specs.Record.{replyOf, numberIn, carriedIn}
 use Rattle.trunk.specs.Near.{rowStart, rowKind, rowRecord, offerRules, offerRecord, offered, storeAfter, sendRules, sent, sentOut, replyRules, acknowledgedAfter, replied}
-use Rattle.trunk.specs.Far.{arrivalRules, delivered, arrived, replyAfter, outputAfter}
+use Rattle.trunk.specs.Far.{arrivalRules, isNext, countAfter, delivered, arrived, replyAfter, outputAfter}
 use Rattle.trunk.specs.Plain.{plainOffer, plainSend, plainReply, plainArrival}
 use Rattle.trunk.specs.declared.Near.{Near}
 use Rattle.trunk.specs.declared.Far.{Far}
@@ -115,6 +115,24 @@ reply-outcome near r = by (eqb (first (replyRules near r)) 0) refl
 
 -- ---- a record at the far end
 
+-- the next number is k, and no other is
+next-number : (k number : ℕ) → isNext k number ≡ true → number ≡ k
+unfolding isNext
+next-number k number e = eqb-true number k e
+
+other-number : (k number : ℕ) → isNext k number ≡ false → number ≢ k
+unfolding isNext
+other-number k number e = eqb-false number k e
+
+-- k grows by one with the next number, and with no other
+count-next : (k number : ℕ) → isNext k number ≡ true → countAfter k number ≡ k + 1
+unfolding countAfter
+count-next k number e = rw e
+
+count-stays : (k number : ℕ) → isNext k number ≡ false → countAfter k number ≡ k
+unfolding countAfter
+count-stays k number e = rw e
+
 -- an arrival's answer with the far end after it, the reply buffer and the output after it
 pub data ArrivalOutcome (far : Far) (r reply out : List ℕ) : Arrived → List ℕ → List ℕ → Type 0 where
   arrival-refused : (n : ℕ)
@@ -123,7 +141,7 @@ pub data ArrivalOutcome (far : Far) (r reply out : List ℕ) : Arrived → List 
   arrival-delivered : Met (plainArrival r (length reply) (length out))
       → numberIn r ≡ far .count
       → ArrivalOutcome far r reply out
-      (delivered far r)
+      (delivered (far .count + 1) (far .station) (carriedIn r))
       (replyOf (far .count + 1) ++ drop headSize reply)
       (carriedIn r ++ drop (length (carriedIn r)) out)
   arrival-repeat : Met (plainArrival r (length reply) (length out))
@@ -143,16 +161,19 @@ arrival-outcome far r reply out b = by (eqb (first (arrivalRules r (length reply
     Outcome : Type 0
     Outcome = ArrivalOutcome far r reply out (arrived far r (length reply) (length out)) (replyAfter far r reply (length out)) (outputAfter far r (length reply) out)
 
-    placed-by : (same below : Bool) → eqb (numberIn r) (far .count) ≡ same → ltb (numberIn r) (far .count) ≡ below → eqb (first (arrivalRules r (length reply) (length out))) 0 ≡ true → Outcome
-    placed-by true below s t e = rw (e, s) (arrival-delivered (v .none .0 (eqb-true _ _ e)) (eqb-true _ _ s))
-    placed-by false true s t e = rw (e, s, t) (arrival-repeat (v .none .0 (eqb-true _ _ e)) (ltb-true _ _ t))
+    placed-by : (next below : Bool) → isNext (far .count) (numberIn r) ≡ next → ltb (numberIn r) (far .count) ≡ below → eqb (first (arrivalRules r (length reply) (length out))) 0 ≡ true → Outcome
+    placed-by true below s t e =
+        rw (e, count-next (far .count) (numberIn r) s, s)
+        (arrival-delivered (v .none .0 (eqb-true _ _ e)) (next-number (far .count) (numberIn r) s))
+    placed-by false true s t e =
+        rw (e, count-stays (far .count) (numberIn r) s, s, t) (arrival-repeat (v .none .0 (eqb-true _ _ e)) (ltb-true _ _ t))
     placed-by false false s t e =
-        let other : numberIn r ≢ far .count = eqb-false _ _ s in
+        let other = other-number (far .count) (numberIn r) s in
         let least : far .count ≤ numberIn r = ltb-false _ _ t in
-        rw (e, s, t) (arrival-early (v .none .0 (eqb-true _ _ e)) (omega arith))
+        rw (e, count-stays (far .count) (numberIn r) s, s, t) (arrival-early (v .none .0 (eqb-true _ _ e)) (omega arith))
 
     by : (b : Bool) → eqb (first (arrivalRules r (length reply) (length out))) 0 ≡ b → Outcome
-    by true e = placed-by (eqb (numberIn r) (far .count)) (ltb (numberIn r) (far .count)) refl refl e
+    by true e = placed-by (isNext (far .count) (numberIn r)) (ltb (numberIn r) (far .count)) refl refl e
     by false e = rw e (arrival-refused _ (v .some _ .0 (refl, eqb-false _ _ e)))
 
 -- ---- calls that break no rule

@@ -18,9 +18,9 @@ use Rattle.pdu.specs.declared.Reading.{Reading}
 use Rattle.pdu.proofs.ReadingLaws.{neither}
 use Rattle.pdu.proofs.Carried.{taken-words}
 use Rattle.trunk.specs.Kinds.{words, transmitter, nothing, unknown, loadSize, recordSize, kindOf, kindOfWords, noKind}
-use Rattle.trunk.specs.Record.{kindIn, numberIn, isReply, lastOfAll, checkRules}
+use Rattle.trunk.specs.Record.{kindIn, numberIn, lastNumber, isReply, lastOfAll, checkRules}
 use Rattle.trunk.specs.Near.{offerRulesOf, sendRules, rowKind, rowRecord, rowStart}
-use Rattle.trunk.specs.Far.{arrivalRules}
+use Rattle.trunk.specs.Far.{arrivalRules, isNext}
 use Rattle.trunk.specs.declared.Near.{Near}
 use Rattle.trunk.proofs.KindLaws.{right-size}
 use Rattle.trunk.proofs.WriteLaws.{carried-type}
@@ -131,3 +131,8 @@ arrival-fits r replyRoom room e =
 pub checked-short : (r : List ℕ) → first (checkRules r) ≡ 0 → length r ≤ 185
 unfolding checkRules
 checked-short r e = rw (right-size r (unbroken 1 (checkRules r) refl e)) (record-small (kindIn r))
+
+-- the next number is the count, so the count is below the last of all
+pub next-below : (k number : ℕ) → isNext k number ≡ true → number < lastNumber → k < lastNumber
+unfolding isNext
+next-below k number e l = omega (arith, eqb-true number _ e)

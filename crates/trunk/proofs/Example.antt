@@ -20,7 +20,7 @@ use Rattle.station.specs.Units.{made}
 use Rattle.trunk.specs.Kinds.{transmitterKind}
 use Rattle.trunk.specs.Record.{recordOf, replyOf, unknownKind, wrongSize, isReply, lastOfAll, wrongCarried}
 use Rattle.trunk.specs.Near.{storeSize, rowSize, offerRulesOf, offered, storeAfter, sendRules, sent, sentOut, replyRules, replied}
-use Rattle.trunk.specs.Far.{leastOutput, arrivalRules, arrived, replyAfter, outputAfter, ticked}
+use Rattle.trunk.specs.Far.{isNext, countAfter, leastOutput, arrivalRules, arrived, replyAfter, outputAfter, ticked}
 use Rattle.trunk.specs.Line.{Entry, offer-made, send-made, reply-heard, record-heard, clock-set, Call, offer, send, to-near, to-far, tick, Line, start, step, run, collect, accepted, acknowledged, written, Allowed, Fair}
 use Rattle.trunk.specs.Demand.{count, Demand3}
 use Rattle.trunk.specs.declared.Offer.{Offer}
@@ -213,7 +213,7 @@ after-all = run before (calls-of story)
 
 -- the checker computes the test of fairness, each answer, and the three counts
 computed : (fair before (calls-of story) ≡ true) × (collect (λ (e : Entry). said e ∷ []) (after-all .log) ≡ answers-of story) × (length (accepted (after-all .log)) ≡ 4) × (count (after-all .log) ≡ 3) × (acknowledged (after-all .log) ≡ 2)
-unfolding fair allowed among same said story before after-all sending arriving record-0 record-1 record-2 unit entry-message ppli order signal start-of zeros offered storeAfter offerRulesOf sent sentOut sendRules replied replyRules arrived replyAfter outputAfter arrivalRules ticked recordOf unknownKind wrongSize isReply lastOfAll wrongCarried wrongVersion wrongType wrongLength wrongFixed wrongSync wrongBits networkRules bodyRules transmitterRules signalRules readingRules refusal content reading transmitterOf signalOf transmitterBytes signalHead signalBytes writtenForm inWrittenForm
+unfolding fair allowed among same said story before after-all sending arriving record-0 record-1 record-2 unit entry-message ppli order signal start-of zeros offered storeAfter offerRulesOf sent sentOut sendRules replied replyRules arrived isNext countAfter replyAfter outputAfter arrivalRules ticked recordOf unknownKind wrongSize isReply lastOfAll wrongCarried wrongVersion wrongType wrongLength wrongFixed wrongSync wrongBits networkRules bodyRules transmitterRules signalRules readingRules refusal content reading transmitterOf signalOf transmitterBytes signalHead signalBytes writtenForm inWrittenForm
 computed = (refl, refl, refl, refl, refl)
 
 -- the list is fair, so demand 3 speaks of it; each call answers as its line says; four PDUs are accepted, three put out, two acknowledged

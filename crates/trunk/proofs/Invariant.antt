@@ -315,7 +315,7 @@ module _ {station : Station} {near : Near} {store : List ℕ} {far : Far} {v : S
       }
 
   -- number k, delivered
-  pub delivery-keeps : (r : List ℕ) → Arriving (v .pdus) r → numberIn r ≡ far .count → Holds station near store (delivered far r .far) (delivering v (carriedIn r) (replyOf (far .count + 1)) (datagram (carriedIn r)) (heard (far .station) (carriedIn r) .answer))
+  pub delivery-keeps : (r : List ℕ) → Arriving (v .pdus) r → numberIn r ≡ far .count → Holds station near store (delivered (far .count + 1) (far .station) (carriedIn r) .far) (delivering v (carriedIn r) (replyOf (far .count + 1)) (datagram (carriedIn r)) (heard (far .station) (carriedIn r) .answer))
   delivery-keeps r a e =
       let c = h .counts in
       let k : ℕ = length (v .out) in

@@ -39,18 +39,26 @@ arrivalRules r replyRoom room =
     ∷ (16 given-when noRoom replyRoom room)
     ∷ []
 
--- "Number k: the PDU is written .., the station steps .., k grows by one"
-abbrev pub delivered : Far → List ℕ → Arrived
-delivered far r =
+-- "Number k": whether a record with this number is the next
+unfoldable pub isNext : ℕ → ℕ → Bool
+isNext k number = eqb number k
+
+-- the new k after a record with this number: "k grows by one"
+unfoldable pub countAfter : ℕ → ℕ → ℕ
+countAfter k number = cond (isNext k number) (k + 1) k
+
+-- "Number k: the PDU is written .., the station steps .., its answer is handed up", with the new k
+abbrev pub delivered : ℕ → Station → List ℕ → Arrived
+delivered k station pdu =
     record {
-      far = record { count = far .count + 1; station = heard (far .station) (carriedIn r) .station };
-      answer = Delivered (length (carriedIn r)) (heard (far .station) (carriedIn r) .answer);
+      far = record { count = k; station = heard station pdu .station };
+      answer = Delivered (length pdu) (heard station pdu .answer);
     }
 
 -- a record that was not refused: by its number, delivered, "Below k: repeat. Above k: early, dropped"
 abbrev pub placed : Far → List ℕ → Arrived
 placed far r =
-    cond (eqb (numberIn r) (far .count)) (delivered far r)
+    cond (isNext (far .count) (numberIn r)) (delivered (countAfter (far .count) (numberIn r)) (far .station) (carriedIn r))
     (cond (ltb (numberIn r) (far .count)) (record { far = far; answer = Repeat }) (record { far = far; answer = Early }))
 
 -- what an arrival answers and leaves
@@ -64,14 +72,14 @@ arrived far r replyRoom room =
 unfoldable pub replyAfter : Far → List ℕ → List ℕ → ℕ → List ℕ
 replyAfter far r reply room =
     cond (eqb (first (arrivalRules r (length reply) room)) 0)
-    (replyOf (placed far r .far .count) ++ drop headSize reply)
+    (replyOf (countAfter (far .count) (numberIn r)) ++ drop headSize reply)
     reply
 
 -- what it leaves in the output: "only the first touches the output"
 unfoldable pub outputAfter : Far → List ℕ → ℕ → List ℕ → List ℕ
 outputAfter far r replyRoom out =
     cond (eqb (first (arrivalRules r replyRoom (length out))) 0)
-    (cond (eqb (numberIn r) (far .count)) (carriedIn r ++ drop (length (carriedIn r)) out) out)
+    (cond (isNext (far .count) (numberIn r)) (carriedIn r ++ drop (length (carriedIn r)) out) out)
     out
 
 -- the far end's clock call: its station's

@@ -1,15 +1,16 @@
 // The far end: a record's arrival and the clock.
 ghost use mathlib.Core.Path.{_≡_};
-ghost use Prim.Native.Nat.{_≤_};
+ghost use Prim.Native.Nat.{_≤_, _<_};
 ghost use lib.ListN.{length};
 ghost use Rattle.wire.specs.Bytes.{splice};
-ghost use Rattle.trunk.specs.Record.{replyOf};
-ghost use Rattle.trunk.specs.Far.{arrived, replyAfter, outputAfter, ticked};
+ghost use Rattle.trunk.specs.Record.{lastNumber, replyOf};
+ghost use Rattle.trunk.specs.Far.{isNext, countAfter, delivered, arrived, replyAfter, outputAfter, ticked};
 use crate::Arrival;
 use crate::Arrived;
 use crate::Far;
 use crate::Ticked;
 use crate::records;
+use station::Station;
 
 // Writes a reply with this count from the start of a reply buffer.
 fn put_reply(reply: &mut [u8], count: u32)
@@ -18,6 +19,42 @@ fn put_reply(reply: &mut [u8], count: u32)
 {
     wire::put_u8(reply, 0, records::REPLY_KIND);
     wire::put_u32(reply, 1, count);
+}
+
+// Whether a record with this number is the next.
+fn is_next(count: u32, number: u32) -> bool
+    ensures { λ r. ⌜ r ≡ isNext count number ⌝ }
+{
+    number == count
+}
+
+// The count after a record with this number.
+fn count_after(count: u32, number: u32) -> u32
+    requires { ⌜ number < lastNumber ⌝ }
+    ensures { λ r. ⌜ r ≡ countAfter count number ⌝ }
+{
+    if is_next(count, number) { count + 1 } else { count }
+}
+
+// Puts out a PDU and has the station hear it; the count after it is given.
+fn deliver(count: u32, station: Station, pdu: &[u8], out: &mut [u8]) -> Arrived
+    requires { ⌜ length (now pdu) ≤ length (now out) ⌝ }
+    ensures answer { λ r. ⌜ r ≡ delivered count station (now (pdu .entry)) ⌝ }
+    ensures output { λ _. ⌜ now (out .exit) ≡ splice 0 (now (pdu .entry)) (now (out .entry)) ⌝ }
+{
+    wire::copy(out, 0, pdu);
+    let heard = station::hear(station, pdu);
+    let after = heard.station;
+    Arrived {
+        far: Far {
+            count,
+            station: after,
+        },
+        answer: Arrival::Delivered {
+            size: pdu.len(),
+            answer: heard.answer,
+        },
+    }
 }
 
 // A record arrives: the next number's PDU is put out and the station hears it; a repeat and an early record change nothing. Each gets a
@@ -36,25 +73,12 @@ pub fn arrive(far: Far, received: &[u8], reply: &mut [u8], out: &mut [u8]) -> Ar
     }
     let number = wire::u32_at(received, 1);
     let count = far.count;
-    let station = far.station;
-    if number == count {
-        let pdu = &received[records::HEAD_SIZE..];
-        wire::copy(out, 0, pdu);
-        put_reply(reply, count + 1);
-        let heard = station::hear(station, pdu);
-        let after = heard.station;
-        return Arrived {
-            far: Far {
-                count: count + 1,
-                station: after,
-            },
-            answer: Arrival::Delivered {
-                size: pdu.len(),
-                answer: heard.answer,
-            },
-        };
+    let after = count_after(count, number);
+    put_reply(reply, after);
+    if is_next(count, number) {
+        let station = far.station;
+        return deliver(after, station, &received[records::HEAD_SIZE..], out);
     }
-    put_reply(reply, count);
     if number < count {
         return Arrived {
             far,
