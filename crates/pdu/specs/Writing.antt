@@ -57,14 +57,10 @@ answered refused size = cond (eqb refused 0) (Size size) (Refused refused)
 abbrev pub left : ℕ → List ℕ → List ℕ → List ℕ
 left refused bytes out = cond (eqb refused 0) (bytes ++ drop (length bytes) out) out
 
--- document 01's number and size for each answer of writing
-abbrev pub numberOfWritten : Written → ℕ
-numberOfWritten (Refused n) = n
-numberOfWritten (Size n) = 0
-
-abbrev pub sizeOfWritten : Written → ℕ
-sizeOfWritten (Refused n) = 0
-sizeOfWritten (Size n) = n
+-- document 01's number, and the size written, of each answer of writing
+abbrev pub writtenSays : Written → List ℕ
+writtenSays (Refused n) = n ∷ []
+writtenSays (Size n) = 0 ∷ n ∷ []
 
 -- the written form of a taken datagram: what writing gives of what reading answers
 unfoldable pub writtenForm : List ℕ → List ℕ

@@ -2,12 +2,13 @@
 // Every public call takes every input and is promised down to each bit of its answer and of the memory lent to it.
 
 ghost use mathlib.Core.Path.{_≡_};
+ghost use mathlib.Core.List.{[], _∷_};
 ghost use lib.ListN.{length};
-ghost use Rattle.wire.specs.First.{first};
+ghost use Rattle.wire.specs.First.{first, told};
 ghost use Rattle.pdu.specs.Numbers.{transmitterSize};
 ghost use Rattle.pdu.specs.Records.{signalSize};
 ghost use Rattle.pdu.specs.Reading.{refusal, reading, numberOf, sizeOf};
-ghost use Rattle.pdu.specs.Writing.{transmitterBytes, transmitterWriting, signalBytes, signalWriting, answered, left, inWrittenForm};
+ghost use Rattle.pdu.specs.Writing.{transmitterBytes, transmitterWriting, signalBytes, signalWriting, answered, writtenSays, left, inWrittenForm};
 
 mod common;
 mod signal_reader;
@@ -178,6 +179,7 @@ pub fn size(r: Reading) -> u32
 // Writes a Transmitter from the start of `out`.
 pub fn write_transmitter(t: Transmitter, out: &mut [u8]) -> Written
     ensures answer { λ r. ⌜ r ≡ answered (first (transmitterWriting t (length (now (out .entry))))) transmitterSize ⌝ }
+    ensures says { λ r. ⌜ writtenSays r ≡ told (first (transmitterWriting t (length (now (out .entry))))) (transmitterSize ∷ []) ⌝ }
     ensures output { λ _. ⌜ now (out .exit) ≡ left (first (transmitterWriting t (length (now (out .entry))))) (transmitterBytes t) (now (out .entry)) ⌝ }
 {
     let n = transmitter_writer::refusal(t, out.len());
@@ -191,6 +193,7 @@ pub fn write_transmitter(t: Transmitter, out: &mut [u8]) -> Written
 // Writes a Signal, whose body is the whole slice, from the start of `out`.
 pub fn write_signal(s: Signal, body: &[u8], out: &mut [u8]) -> Written
     ensures answer { λ r. ⌜ r ≡ answered (first (signalWriting s (length (now (body .entry))) (length (now (out .entry))))) (signalSize (length (now (body .entry)))) ⌝ }
+    ensures says { λ r. ⌜ writtenSays r ≡ told (first (signalWriting s (length (now (body .entry))) (length (now (out .entry))))) (signalSize (length (now (body .entry))) ∷ []) ⌝ }
     ensures output { λ _. ⌜ now (out .exit) ≡ left (first (signalWriting s (length (now (body .entry))) (length (now (out .entry))))) (signalBytes s (now (body .entry))) (now (out .entry)) ⌝ }
 {
     let n = signal_writer::refusal(s, body, out.len());

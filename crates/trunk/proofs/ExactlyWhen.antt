@@ -4,8 +4,8 @@
 use Prim.Native.Nat.{ℕ, _<_, max}
 use mathlib.Core.Path.{_≡_, refl, sym, ap, ap₂, subst, _∙_}
 use mathlib.Core.Logic.{_↔_, _≢_}
-use mathlib.Core.List.{List}
-use lib.ListN.{length}
+use mathlib.Core.List.{List, [], _∷_}
+use lib.ListN.{length, getD}
 use native.Mathlib.Omega.{arith}
 use Rattle.wire.specs.Bytes.{num, Bytes}
 use Rattle.wire.specs.First.{Refusal}
@@ -14,8 +14,8 @@ use Rattle.pdu.proofs.RuleLaws.{Verdict}
 use Rattle.station.specs.Hearing.{heard}
 use Rattle.trunk.specs.Kinds.{recordSize}
 use Rattle.trunk.specs.Record.{numberIn, carriedIn}
-use Rattle.trunk.specs.Near.{rowStart, rowKind, acknowledgedAfter, numberOfOffer, numberOfSent, numberOfReply, offered, sent, replied}
-use Rattle.trunk.specs.Far.{arrived, numberOfArrival}
+use Rattle.trunk.specs.Near.{rowStart, rowKind, acknowledgedAfter, offerSays, sendSays, replySays, offered, sent, replied}
+use Rattle.trunk.specs.Far.{arrived, arrivalSays}
 use Rattle.trunk.specs.Plain.{plainOffer, plainSend, plainReply, plainArrival}
 use Rattle.trunk.specs.declared.Near.{Near}
 use Rattle.trunk.specs.declared.Far.{Far}
@@ -38,9 +38,9 @@ neither-holds : {A B : Type 0} → ¬ A → ¬ B → A ↔ B
 neither-holds a b = (λ x. absurd (a x), λ y. absurd (b y))
 
 -- where n is the first broken rule's number, no other is
-refused-as : {X : Type 0} (refuse : ℕ → X) (number : X → ℕ) → ((n : ℕ) → number (refuse n) ≡ n) → {rs : List Refusal} (ps : List Rule) → Verdict rs ps → (m : ℕ) → FirstBroken m ps → (n : ℕ) → (refuse m ≡ refuse n) ↔ FirstBroken n ps
-refused-as refuse number back ps v m f n = (
-  (λ e. subst (λ (k : ℕ). FirstBroken k ps) (sym (back m) ∙ ap number e ∙ back n) f),
+refused-as : {X : Type 0} (refuse : ℕ → X) (says : X → List ℕ) → ((n : ℕ) → says (refuse n) ≡ n ∷ []) → {rs : List Refusal} (ps : List Rule) → Verdict rs ps → (m : ℕ) → FirstBroken m ps → (n : ℕ) → (refuse m ≡ refuse n) ↔ FirstBroken n ps
+refused-as refuse says back ps v m f n = (
+  (λ e. subst (λ (k : ℕ). FirstBroken k ps) (ap (λ (l : List ℕ). getD l 0 0) (sym (back m) ∙ ap says e ∙ back n)) f),
   (λ g. ap refuse (sym (v .some m .1 f .0) ∙ v .some n .1 g .0)),
 )
 
@@ -64,7 +64,7 @@ offer-exactly : (near : Near) (store d : List ℕ) {o : Offered} {s : List ℕ} 
 offer-exactly near store d (offer-refused m f) =
     let v = offer-verdict near store d in
     record {
-      refused = refused-as offerRefused numberOfOffer (λ n. refl) (plainOffer near store d) v m f;
+      refused = refused-as offerRefused offerSays (λ n. refl) (plainOffer near store d) v m f;
       taken = λ i. neither-holds (offer-no-taken m i) (λ x. clash (plainOffer near store d) v m f (x .0));
     }
 offer-exactly near store d (offer-taken met) =
@@ -95,7 +95,7 @@ send-exactly near store i out (send-refused m f) =
     let v = send-verdict near store i (length out) in
     let rules = plainSend near store i (length out) in
     record {
-      refused = refused-as sendRefused numberOfSent (λ n. refl) rules v m f;
+      refused = refused-as sendRefused sendSays (λ n. refl) rules v m f;
       size = λ n. neither-holds (send-no-size m n) (λ x. clash rules v m f (x .0));
     }
 send-exactly near store i out (send-taken met) =
@@ -126,7 +126,7 @@ reply-exactly : (near : Near) (r : List ℕ) {o : Replied} → ReplyOutcome near
 reply-exactly near r (reply-refused m f) =
     let v = reply-verdict near r in
     record {
-      refused = refused-as replyRefused numberOfReply (λ n. refl) (plainReply near r) v m f;
+      refused = refused-as replyRefused replySays (λ n. refl) (plainReply near r) v m f;
       acknowledged = λ n. neither-holds (reply-no-count m n) (λ x. clash (plainReply near r) v m f (x .0));
     }
 reply-exactly near r (reply-taken met) =
@@ -169,7 +169,7 @@ arrive-exactly far r reply out b (arrival-refused m f) =
     let v = arrival-verdict r b (length reply) (length out) in
     let rules = plainArrival r (length reply) (length out) in
     record {
-      refused = refused-as arrivalRefused numberOfArrival (λ n. refl) rules v m f;
+      refused = refused-as arrivalRefused arrivalSays (λ n. refl) rules v m f;
       delivered = λ size answer. neither-holds (differ (arrivalRefused m) (Delivered size answer) (λ t. omega arith)) (λ x. clash rules v m f (x .0));
       repeat = neither-holds (differ (arrivalRefused m) Repeat (λ t. omega arith)) (λ x. clash rules v m f (x .0));
       early = neither-holds (differ (arrivalRefused m) Early (λ t. omega arith)) (λ x. clash rules v m f (x .0));

@@ -90,9 +90,16 @@ ticked far t =
       answer = clocked (far .station) t .answer;
     }
 
--- document 01's number for each answer of an arrival
-abbrev pub numberOfArrival : Arrival → ℕ
-numberOfArrival (Refused n) = n
-numberOfArrival (Delivered size answer) = 0
-numberOfArrival Repeat = 0
-numberOfArrival Early = 0
+-- document 01's number and values of each answer: "delivered (with PDU size and station's answer), repeat or early", which have none
+abbrev pub arrivalSays : Arrival → List ℕ
+arrivalSays (Refused n) = n ∷ []
+arrivalSays (Delivered size answer) = 0 ∷ size ∷ answer ∷ []
+arrivalSays Repeat = 0 ∷ []
+arrivalSays Early = 0 ∷ []
+
+-- the values of a record that was not refused
+abbrev pub valuesOf : Far → List ℕ → List ℕ
+valuesOf far r =
+    cond (isNext (far .count) (numberIn r))
+    (length (carriedIn r) ∷ heard (far .station) (carriedIn r) .answer ∷ [])
+    []

@@ -12,10 +12,12 @@ use Rattle.pdu.specs.declared.Reading.{Reading}
 use Rattle.trunk.specs.Kinds.{kindOf, noKind, load, isUnknown, recordSize, replyKind}
 use Rattle.trunk.specs.Record.{recordOf, numberIn, lastNumber, unknownKind, wrongSize, isReply}
 use Rattle.trunk.specs.declared.Near.{Near}
+use Rattle.trunk.specs.declared.Offer.{Offer}
 use Rattle.trunk.specs.declared.Offer.the-variants.{Refused as offerRefused, Taken}
 use Rattle.trunk.specs.declared.Offered.{Offered}
 use Rattle.trunk.specs.declared.Sent.{Sent}
 use Rattle.trunk.specs.declared.Sent.the-variants.{Refused as sendRefused, Size}
+use Rattle.trunk.specs.declared.Reply.{Reply}
 use Rattle.trunk.specs.declared.Reply.the-variants.{Refused as replyRefused, Acknowledged}
 use Rattle.trunk.specs.declared.Replied.{Replied}
 
@@ -138,15 +140,16 @@ replied near r =
     })
     (record { near = near; answer = replyRefused (first (replyRules near r)) })
 
--- document 01's number and value for each answer of the near end
-abbrev pub numberOfOffer : Rattle.trunk.specs.declared.Offer.Offer → ℕ
-numberOfOffer (offerRefused n) = n
-numberOfOffer (Taken i) = 0
+-- ---- document 01's number and values of each answer: "a send, the size written; an offer, the number taken; a reply, the acknowledged count"
 
-abbrev pub numberOfSent : Sent → ℕ
-numberOfSent (sendRefused n) = n
-numberOfSent (Size n) = 0
+abbrev pub offerSays : Offer → List ℕ
+offerSays (offerRefused n) = n ∷ []
+offerSays (Taken i) = 0 ∷ i ∷ []
 
-abbrev pub numberOfReply : Rattle.trunk.specs.declared.Reply.Reply → ℕ
-numberOfReply (replyRefused n) = n
-numberOfReply (Acknowledged n) = 0
+abbrev pub sendSays : Sent → List ℕ
+sendSays (sendRefused n) = n ∷ []
+sendSays (Size n) = 0 ∷ n ∷ []
+
+abbrev pub replySays : Reply → List ℕ
+replySays (replyRefused n) = n ∷ []
+replySays (Acknowledged n) = 0 ∷ n ∷ []

@@ -3,8 +3,9 @@ ghost use mathlib.Core.Path.{_≡_};
 ghost use Prim.Native.Nat.{_≤_, _<_};
 ghost use lib.ListN.{length};
 ghost use Rattle.wire.specs.Bytes.{splice};
+ghost use Rattle.wire.specs.First.{first, told};
 ghost use Rattle.trunk.specs.Record.{lastNumber, replyOf};
-ghost use Rattle.trunk.specs.Far.{isNext, countAfter, delivered, arrived, replyAfter, outputAfter, ticked};
+ghost use Rattle.trunk.specs.Far.{arrivalRules, isNext, countAfter, delivered, arrived, arrivalSays, valuesOf, replyAfter, outputAfter, ticked};
 use crate::Arrival;
 use crate::Arrived;
 use crate::Far;
@@ -33,7 +34,11 @@ fn count_after(count: u32, number: u32) -> u32
     requires { ⌜ number < lastNumber ⌝ }
     ensures { λ r. ⌜ r ≡ countAfter count number ⌝ }
 {
-    if is_next(count, number) { count + 1 } else { count }
+    if is_next(count, number) {
+        count + 1
+    } else {
+        count
+    }
 }
 
 // Puts out a PDU and has the station hear it; the count after it is given.
@@ -61,6 +66,7 @@ fn deliver(count: u32, station: Station, pdu: &[u8], out: &mut [u8]) -> Arrived
 // reply with the count after it.
 pub fn arrive(far: Far, received: &[u8], reply: &mut [u8], out: &mut [u8]) -> Arrived
     ensures answer { λ r. ⌜ r ≡ arrived far (now (received .entry)) (length (now (reply .entry))) (length (now (out .entry))) ⌝ }
+    ensures says { λ r. ⌜ arrivalSays (r .answer) ≡ told (first (arrivalRules (now (received .entry)) (length (now (reply .entry))) (length (now (out .entry))))) (valuesOf far (now (received .entry))) ⌝ }
     ensures reply { λ _. ⌜ now (reply .exit) ≡ replyAfter far (now (received .entry)) (now (reply .entry)) (length (now (out .entry))) ⌝ }
     ensures output { λ _. ⌜ now (out .exit) ≡ outputAfter far (now (received .entry)) (length (now (reply .entry))) (now (out .entry)) ⌝ }
 {

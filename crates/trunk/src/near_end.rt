@@ -1,14 +1,15 @@
 // The near end: offering, sending and taking a reply.
 ghost use mathlib.Core.Path.{_≡_};
 ghost use Prim.Native.Nat.{_-_, _≤_};
+ghost use mathlib.Core.List.{[], _∷_};
 ghost use lib.ListN.{length};
 ghost use Rattle.wire.specs.Bytes.{splice};
-ghost use Rattle.wire.specs.First.{first};
+ghost use Rattle.wire.specs.First.{first, told};
 ghost use Rattle.pdu.specs.Reading.{reading};
 ghost use Rattle.pdu.specs.Writing.{writtenForm};
-ghost use Rattle.trunk.specs.Kinds.{kindOf, noKind};
-ghost use Rattle.trunk.specs.Record.{recordOf};
-ghost use Rattle.trunk.specs.Near.{offerRulesOf, offered, storeAfter, rowStart, sendRules, sent, sentOut, replied, acknowledgedAfter};
+ghost use Rattle.trunk.specs.Kinds.{kindOf, noKind, recordSize};
+ghost use Rattle.trunk.specs.Record.{recordOf, numberIn};
+ghost use Rattle.trunk.specs.Near.{offerRulesOf, offerRules, offered, offerSays, storeAfter, rowStart, rowKind, sendRules, sent, sendSays, sentOut, replyRules, replied, replySays, acknowledgedAfter};
 use crate::Near;
 use crate::Offer;
 use crate::Offered;
@@ -96,6 +97,7 @@ fn put_record(row: &mut [u8], kind: u8, number: u32, datagram: &[u8])
 // Offers a datagram: takes its PDU under the next number and writes its record into that number's row of the store.
 pub fn offer(near: Near, store: &mut [u8], datagram: &[u8]) -> Offered
     ensures answer { λ r. ⌜ r ≡ offered near (now (store .entry)) (now (datagram .entry)) ⌝ }
+    ensures says { λ r. ⌜ offerSays (r .answer) ≡ told (first (offerRules near (now (store .entry)) (now (datagram .entry)))) (near .accepted ∷ []) ⌝ }
     ensures store { λ _. ⌜ now (store .exit) ≡ storeAfter near (now (store .entry)) (now (datagram .entry)) ⌝ }
 {
     let answer = pdu::read(datagram);
@@ -145,6 +147,7 @@ fn send_refusal(near: Near, store: &[u8], i: u32, room: usize) -> u8
 // Sends number i: its record, as its row of the store has it, from the start of `out`.
 pub fn send(near: Near, store: &[u8], i: u32, out: &mut [u8]) -> Sent
     ensures answer { λ r. ⌜ r ≡ sent near (now (store .entry)) i (length (now (out .entry))) ⌝ }
+    ensures says { λ r. ⌜ sendSays r ≡ told (first (sendRules near (now (store .entry)) i (length (now (out .entry))))) (recordSize (rowKind (now (store .entry)) i) ∷ []) ⌝ }
     ensures output { λ _. ⌜ now (out .exit) ≡ sentOut near (now (store .entry)) i (now (out .entry)) ⌝ }
 {
     let n = send_refusal(near, store, i, out.len());
@@ -160,7 +163,8 @@ pub fn send(near: Near, store: &[u8], i: u32, out: &mut [u8]) -> Sent
 
 // Takes a reply: a number below the acknowledged count changes nothing, any other becomes that count.
 pub fn take_reply(near: Near, received: &[u8]) -> Replied
-    ensures { λ r. ⌜ r ≡ replied near (now (received .entry)) ⌝ }
+    ensures answer { λ r. ⌜ r ≡ replied near (now (received .entry)) ⌝ }
+    ensures says { λ r. ⌜ replySays (r .answer) ≡ told (first (replyRules near (now (received .entry)))) (acknowledgedAfter (near .acknowledged) (numberIn (now (received .entry))) ∷ []) ⌝ }
 {
     let n = records::reply_refusal(near, received);
     if n != 0 {

@@ -18,3 +18,7 @@ first ((n given-when broken) ∷ rest) = cond broken n (first rest)
 abbrev pub numbered : List Refusal → Bool
 numbered [] = true
 numbered ((n given-when broken) ∷ rest) = not (eqb n 0) && numbered rest
+
+-- what a call says in document 01's numbers: a refusal's number alone, or 0 and the values of its answer
+abbrev pub told : ℕ → List ℕ → List ℕ
+told refused values = cond (eqb refused 0) (0 ∷ values) (refused ∷ [])

@@ -1,6 +1,8 @@
 -- `write_signal` meets its contract: refused, it has written nothing; else the PDU stands at the output's start, with what was behind it
 -- (`splice-start`). The rules passed give the bounds that writing asks (`signal-fits`).
 -- Assumes nothing.
+use Prim.Native.Nat.{ℕ}
+use mathlib.Core.List.{[], _∷_}
 use mathlib.Core.Path.{sym, ap, _∙_}
 use lib.ListN.{length}
 use denote.Ref.{now}
@@ -21,7 +23,7 @@ refusal-requires c κs = search needs
 returns : tie.Need-returns
 returns c =
     let no = ne-eqb (first (signalWriting (c .before .before .before .before .args .s) (length (now (c .before .before .before .before .args .body))) (length (now (c .before .before .before .before .args .out))))) 0 (λ e. c .if1 .taken (c .before .refusal .ensures ∙ e)) in
-    (rw no (ap Refused (c .before .refusal .ensures)), rw no)
+    (rw no (ap Refused (c .before .refusal .ensures)), (rw no (ap (λ (n : ℕ). n ∷ []) (c .before .refusal .ensures)), rw no))
 
 put-requires : tie.Need-put-requires
 put-requires c κs =
@@ -38,7 +40,10 @@ returns-2 : tie.Need-returns-2
 returns-2 c =
     let yes = eq-eqb (first (signalWriting (c .before .before .before .before .before .before .before .before .before .args .s) (length (now (c .before .before .before .before .before .before .before .before .before .args .body))) (length (now (c .before .before .before .before .before .before .before .before .before .args .out))))) 0 (sym (c .before .before .before .before .before .before .refusal .ensures) ∙ c .before .before .before .before .before .if1 .left) in (
       rw yes (ap Size (c .signal-size .ensures)),
-      rw yes (c .before .before .before .put .ensures ∙ splice-start (signalBytes (c .before .before .before .before .before .before .before .before .before .args .s) (now (c .before .before .before .before .before .before .before .before .before .args .body))) (now (c .before .before .before .before .before .before .before .before .before .args .out)) (rw (length-signal (c .before .before .before .before .before .before .before .before .before .args .s) (now (c .before .before .before .before .before .before .before .before .before .args .body))) ((signal-fits (c .before .before .before .before .before .before .before .before .before .args .s) (length (now (c .before .before .before .before .before .before .before .before .before .args .body))) (length (now (c .before .before .before .before .before .before .before .before .before .args .out))) (sym (c .before .before .before .before .before .before .refusal .ensures) ∙ c .before .before .before .before .before .if1 .left)) .space))),
+      (
+        rw yes (ap (λ (n : ℕ). 0 ∷ n ∷ []) (c .signal-size .ensures)),
+        rw yes (c .before .before .before .put .ensures ∙ splice-start (signalBytes (c .before .before .before .before .before .before .before .before .before .args .s) (now (c .before .before .before .before .before .before .before .before .before .args .body))) (now (c .before .before .before .before .before .before .before .before .before .args .out)) (rw (length-signal (c .before .before .before .before .before .before .before .before .before .args .s) (now (c .before .before .before .before .before .before .before .before .before .args .body))) ((signal-fits (c .before .before .before .before .before .before .before .before .before .args .s) (length (now (c .before .before .before .before .before .before .before .before .before .args .body))) (length (now (c .before .before .before .before .before .before .before .before .before .args .out))) (sym (c .before .before .before .before .before .before .refusal .ensures) ∙ c .before .before .before .before .before .if1 .left)) .space))),
+      ),
     )
 
 pub write-signal-spec : {M : Type 1} → statement M

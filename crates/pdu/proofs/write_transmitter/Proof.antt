@@ -1,6 +1,8 @@
 -- `write_transmitter` meets its contract: refused, it has written nothing; else the PDU stands at the output's start, with what was behind it
 -- (`splice-start`).
 -- Assumes nothing.
+use Prim.Native.Nat.{ℕ}
+use mathlib.Core.List.{[], _∷_}
 use mathlib.Core.Path.{sym, ap, _∙_}
 use lib.ListN.{length}
 use denote.Ref.{now}
@@ -21,7 +23,7 @@ refusal-requires c κs = search needs
 returns : tie.Need-returns
 returns c =
     let no = ne-eqb (first (transmitterWriting (c .before .before .before .args .t) (length (now (c .before .before .before .args .out))))) 0 (λ e. c .if1 .taken (c .before .refusal .ensures ∙ e)) in
-    (rw no (ap Refused (c .before .refusal .ensures)), rw no)
+    (rw no (ap Refused (c .before .refusal .ensures)), (rw no (ap (λ (n : ℕ). n ∷ []) (c .before .refusal .ensures)), rw no))
 
 put-requires : tie.Need-put-requires
 put-requires c κs = omega (arith, transmitter-fits (c .before .before .before .before .args .t) (length (now (c .before .before .before .before .args .out))) (sym (c .before .before .refusal .ensures) ∙ c .before .if1 .left))
@@ -34,7 +36,10 @@ unfolding transmitterBytes
 returns-2 c =
     let yes = eq-eqb (first (transmitterWriting (c .before .before .before .before .before .before .before .args .t) (length (now (c .before .before .before .before .before .before .before .args .out))))) 0 (sym (c .before .before .before .before .before .refusal .ensures) ∙ c .before .before .before .before .if1 .left) in (
       rw yes,
-      rw yes (c .before .before .put .ensures ∙ splice-start (transmitterBytes (c .before .before .before .before .before .before .before .args .t)) (now (c .before .before .before .before .before .before .before .args .out)) (transmitter-fits (c .before .before .before .before .before .before .before .args .t) (length (now (c .before .before .before .before .before .before .before .args .out))) (sym (c .before .before .before .before .before .refusal .ensures) ∙ c .before .before .before .before .if1 .left))),
+      (
+        rw yes,
+        rw yes (c .before .before .put .ensures ∙ splice-start (transmitterBytes (c .before .before .before .before .before .before .before .args .t)) (now (c .before .before .before .before .before .before .before .args .out)) (transmitter-fits (c .before .before .before .before .before .before .before .args .t) (length (now (c .before .before .before .before .before .before .before .args .out))) (sym (c .before .before .before .before .before .refusal .ensures) ∙ c .before .before .before .before .if1 .left))),
+      ),
     )
 
 pub write-transmitter-spec : {M : Type 1} → statement M

@@ -2,7 +2,7 @@
 -- the record, and the record is the next number, a repeat or early. The rules passed give room for both (`arrival-fits`).
 -- Assumes nothing.
 use Prim.Native.Nat.{ℕ}
-use mathlib.Core.List.{List, _++_}
+use mathlib.Core.List.{List, [], _∷_, _++_}
 use mathlib.Core.Path.{sym, ap, ap₂, _∙_}
 use lib.ListN.{length, drop, length-take, length-drop}
 use denote.Ref.{now}
@@ -13,9 +13,11 @@ use Rattle.wire.proofs.ByteLaws.{splice-start}
 use Rattle.wire.specs.First.{first}
 use Rattle.wire.specs.Bytes.{splice}
 use Rattle.pdu.proofs.ReadingLaws.{part-rest}
+use Rattle.station.specs.Hearing.{heard}
 use Rattle.trunk.specs.declared.Arrival.the-variants.{Refused}
+use Rattle.trunk.specs.declared.Arrived.{Arrived}
 use Rattle.trunk.specs.Record.{recordOf, replyOf, numberIn, carriedIn}
-use Rattle.trunk.specs.Far.{arrivalRules, isNext, countAfter, delivered, arrived, replyAfter, outputAfter}
+use Rattle.trunk.specs.Far.{arrivalRules, isNext, countAfter, delivered, arrived, arrivalSays, replyAfter, outputAfter}
 use Rattle.trunk.proofs.EndLaws.{arrival-fits}
 use Rattle.trunk.proofs.far_end.arrive.Statement.{statement}
 use Rattle.trunk.proofs.far_end.arrive.Tie as tie
@@ -28,7 +30,7 @@ unfolding arrived replyAfter outputAfter
 returns c =
     let given = c .before .before .before .before .before .args in
     let no = ne-eqb (first (arrivalRules (now (given .received)) (length (now (given .reply))) (length (now (given .out))))) 0 (λ e. c .if1 .taken (c .before .arrival-refusal .ensures ∙ e)) in
-    (rw no (ap (λ (n : ℕ). record { far = given .far; answer = Refused n }) (c .before .arrival-refusal .ensures)), (rw no, rw no))
+    (rw no (ap (λ (n : ℕ). record { far = given .far; answer = Refused n }) (c .before .arrival-refusal .ensures)), (rw no (ap (λ (n : ℕ). n ∷ []) (c .before .arrival-refusal .ensures)), (rw no, rw no)))
 
 u32-at-requires : tie.Need-u32-at-requires
 u32-at-requires c κs =
@@ -92,8 +94,13 @@ returns-2 c =
     let pdu = part-rest 5 (now (given .received)) in (
       rw (yes, here) (c .before .before .deliver .ensures .0 ∙ ap₂ (λ (k : ℕ) (p : List ℕ). delivered k (given .far .station) p) (c .before .before .before .before .before .before .before .before .before .before .before .before .count-after .ensures ∙ ap (countAfter (given .far .count)) number) pdu),
       (
-        rw yes replied,
-        rw (yes, here) (c .before .before .deliver .ensures .1 ∙ ap (λ (b : List ℕ). splice 0 b (now (given .out))) pdu ∙ splice-start (carriedIn (now (given .received))) (now (given .out)) (simp length-drop (omega (arith, fits .size, fits .output)))),
+        rw (yes, here)
+            (ap (λ (a : Arrived). arrivalSays (a .answer)) (c .before .before .deliver .ensures .0)
+            ∙ ap (λ (p : List ℕ). 0 ∷ length p ∷ heard (given .far .station) p .answer ∷ []) pdu),
+        (
+          rw yes replied,
+          rw (yes, here) (c .before .before .deliver .ensures .1 ∙ ap (λ (b : List ℕ). splice 0 b (now (given .out))) pdu ∙ splice-start (carriedIn (now (given .received))) (now (given .out)) (simp length-drop (omega (arith, fits .size, fits .output)))),
+        ),
       ),
     )
 
@@ -111,7 +118,7 @@ returns-3 c =
     let next = ap (isNext (given .far .count)) (sym number) ∙ sym (c .before .before .is-next .ensures) in
     let away = next ∙ c .before .if2 .left in
     let side = lt-ltb (numberIn (now (given .received))) (given .far .count) (rw number at (c .if3 .taken)) in
-    (rw (yes, away, side), (rw yes replied, rw (yes, away)))
+    (rw (yes, away, side), (rw (yes, away), (rw yes replied, rw (yes, away))))
 
 same-length-4 : tie.Need-same-length-4
 same-length-4 c = search needs
@@ -127,7 +134,7 @@ returns-4 c =
     let next = ap (isNext (given .far .count)) (sym number) ∙ sym (c .before .before .is-next .ensures) in
     let away = next ∙ c .before .if2 .left in
     let side = le-ltb (numberIn (now (given .received))) (given .far .count) (rw number at (c .if3 .left)) in
-    (rw (yes, away, side), (rw yes replied, rw (yes, away)))
+    (rw (yes, away, side), (rw (yes, away), (rw yes replied, rw (yes, away))))
 
 pub arrive-spec : {M : Type 1} → statement M
 arrive-spec =

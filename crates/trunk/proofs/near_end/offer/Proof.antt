@@ -2,7 +2,7 @@
 -- rules passed give the store's size, the kind and the number's room (`offer-fits`).
 -- Assumes nothing.
 use Prim.Native.Nat.{ℕ, _+_, _-_, _≤_}
-use mathlib.Core.List.{List, _++_}
+use mathlib.Core.List.{List, [], _∷_, _++_}
 use mathlib.Core.Path.{sym, ap, _∙_}
 use lib.ListN.{length, take, drop, length-take, length-drop}
 use denote.Ref.{now}
@@ -33,7 +33,7 @@ returns : tie.Need-returns
 unfolding offered storeAfter
 returns c =
     let no = ne-eqb (first (offerRules (c .before .before .before .before .before .args .near) (now (c .before .before .before .before .before .args .store)) (now (c .before .before .before .before .before .args .datagram)))) 0 (λ e. c .if1 .taken ((c .before .offer-refusal .ensures ∙ ap (λ (a : Reading). first (offerRulesOf (c .before .before .before .before .before .args .near) (length (now (c .before .before .before .before .before .args .store))) a)) (c .before .before .read .ensures)) ∙ e)) in
-    (rw no (ap (λ (n : ℕ). record { near = (c .before .before .before .before .before .args .near); answer = Refused n }) (c .before .offer-refusal .ensures ∙ ap (λ (a : Reading). first (offerRulesOf (c .before .before .before .before .before .args .near) (length (now (c .before .before .before .before .before .args .store))) a)) (c .before .before .read .ensures))), rw no)
+    (rw no (ap (λ (n : ℕ). record { near = (c .before .before .before .before .before .args .near); answer = Refused n }) (c .before .offer-refusal .ensures ∙ ap (λ (a : Reading). first (offerRulesOf (c .before .before .before .before .before .args .near) (length (now (c .before .before .before .before .before .args .store))) a)) (c .before .before .read .ensures))), (rw no (ap (λ (n : ℕ). n ∷ []) (c .before .offer-refusal .ensures ∙ ap (λ (a : Reading). first (offerRulesOf (c .before .before .before .before .before .args .near) (length (now (c .before .before .before .before .before .args .store))) a)) (c .before .before .read .ensures))), rw no))
 
 row-start-requires : tie.Need-row-start-requires
 row-start-requires c κs = search needs
@@ -72,11 +72,14 @@ returns-2 c =
     let room : (c .before .before .before .before .before .row-start .result) + 192 ≤ length (now (c .before .before .before .before .before .before .before .before .before .before .before .args .store)) = omega (arith, c .before .before .before .before .before .row-start .ensures .1, (offer-fits (c .before .before .before .before .before .before .before .before .before .before .before .args .near) (length (now (c .before .before .before .before .before .before .before .before .before .before .before .args .store))) (reading (now (c .before .before .before .before .before .before .before .before .before .before .before .args .datagram))) (sym (c .before .before .before .before .before .before .before .offer-refusal .ensures ∙ ap (λ (a : Reading). first (offerRulesOf (c .before .before .before .before .before .before .before .before .before .before .before .args .near) (length (now (c .before .before .before .before .before .before .before .before .before .before .before .args .store))) a)) (c .before .before .before .before .before .before .before .before .read .ensures)) ∙ c .before .before .before .before .before .before .if1 .left)) .store) in
     let long : length (recordOf (kindOf (reading (now (c .before .before .before .before .before .before .before .before .before .before .before .args .datagram)))) ((c .before .before .before .before .before .before .before .before .before .before .before .args .near) .accepted) (writtenForm (now (c .before .before .before .before .before .before .before .before .before .before .before .args .datagram)))) ≤ 185 = record-short (kindOf (reading (now (c .before .before .before .before .before .before .before .before .before .before .before .args .datagram)))) ((c .before .before .before .before .before .before .before .before .before .before .before .args .near) .accepted) (now (c .before .before .before .before .before .before .before .before .before .before .before .args .datagram)) ((offer-fits (c .before .before .before .before .before .before .before .before .before .before .before .args .near) (length (now (c .before .before .before .before .before .before .before .before .before .before .before .args .store))) (reading (now (c .before .before .before .before .before .before .before .before .before .before .before .args .datagram))) (sym (c .before .before .before .before .before .before .before .offer-refusal .ensures ∙ ap (λ (a : Reading). first (offerRulesOf (c .before .before .before .before .before .before .before .before .before .before .before .args .near) (length (now (c .before .before .before .before .before .before .before .before .before .before .before .args .store))) a)) (c .before .before .before .before .before .before .before .before .read .ensures)) ∙ c .before .before .before .before .before .before .if1 .left)) .carried) in (
       rw yes,
-      rw yes
-          (ap (λ (l : List ℕ). take (c .before .before .before .before .before .row-start .result) (now (c .before .before .before .before .before .before .before .before .before .before .before .args .store)) ++ (l ++ drop ((c .before .before .before .before .before .row-start .result) + 192 - (c .before .before .before .before .before .row-start .result)) (drop (c .before .before .before .before .before .row-start .result) (now (c .before .before .before .before .before .before .before .before .before .before .before .args .store)))))
-          (c .before .before .put-record .ensures ∙ ap (λ (k : ℕ). splice 0 (recordOf k ((c .before .before .before .before .before .before .before .before .before .before .before .args .near) .accepted) (writtenForm (now (c .before .before .before .before .before .before .before .before .before .before .before .args .datagram)))) (take ((c .before .before .before .before .before .row-start .result) + 192 - (c .before .before .before .before .before .row-start .result)) (drop (c .before .before .before .before .before .row-start .result) (now (c .before .before .before .before .before .before .before .before .before .before .before .args .store))))) (c .before .before .before .before .kind-of .ensures ∙ ap kindOf (c .before .before .before .before .before .before .before .before .read .ensures)))
-          ∙ part-splice (c .before .before .before .before .before .row-start .result) ((c .before .before .before .before .before .row-start .result) + 192 - (c .before .before .before .before .before .row-start .result)) (recordOf (kindOf (reading (now (c .before .before .before .before .before .before .before .before .before .before .before .args .datagram)))) ((c .before .before .before .before .before .before .before .before .before .before .before .args .near) .accepted) (writtenForm (now (c .before .before .before .before .before .before .before .before .before .before .before .args .datagram)))) (now (c .before .before .before .before .before .before .before .before .before .before .before .args .store)) (omega arith) (omega arith)
-          ∙ ap (λ (a : ℕ). splice a (recordOf (kindOf (reading (now (c .before .before .before .before .before .before .before .before .before .before .before .args .datagram)))) ((c .before .before .before .before .before .before .before .before .before .before .before .args .near) .accepted) (writtenForm (now (c .before .before .before .before .before .before .before .before .before .before .before .args .datagram)))) (now (c .before .before .before .before .before .before .before .before .before .before .before .args .store))) (c .before .before .before .before .before .row-start .ensures .0)),
+      (
+        rw yes,
+        rw yes
+            (ap (λ (l : List ℕ). take (c .before .before .before .before .before .row-start .result) (now (c .before .before .before .before .before .before .before .before .before .before .before .args .store)) ++ (l ++ drop ((c .before .before .before .before .before .row-start .result) + 192 - (c .before .before .before .before .before .row-start .result)) (drop (c .before .before .before .before .before .row-start .result) (now (c .before .before .before .before .before .before .before .before .before .before .before .args .store)))))
+            (c .before .before .put-record .ensures ∙ ap (λ (k : ℕ). splice 0 (recordOf k ((c .before .before .before .before .before .before .before .before .before .before .before .args .near) .accepted) (writtenForm (now (c .before .before .before .before .before .before .before .before .before .before .before .args .datagram)))) (take ((c .before .before .before .before .before .row-start .result) + 192 - (c .before .before .before .before .before .row-start .result)) (drop (c .before .before .before .before .before .row-start .result) (now (c .before .before .before .before .before .before .before .before .before .before .before .args .store))))) (c .before .before .before .before .kind-of .ensures ∙ ap kindOf (c .before .before .before .before .before .before .before .before .read .ensures)))
+            ∙ part-splice (c .before .before .before .before .before .row-start .result) ((c .before .before .before .before .before .row-start .result) + 192 - (c .before .before .before .before .before .row-start .result)) (recordOf (kindOf (reading (now (c .before .before .before .before .before .before .before .before .before .before .before .args .datagram)))) ((c .before .before .before .before .before .before .before .before .before .before .before .args .near) .accepted) (writtenForm (now (c .before .before .before .before .before .before .before .before .before .before .before .args .datagram)))) (now (c .before .before .before .before .before .before .before .before .before .before .before .args .store)) (omega arith) (omega arith)
+            ∙ ap (λ (a : ℕ). splice a (recordOf (kindOf (reading (now (c .before .before .before .before .before .before .before .before .before .before .before .args .datagram)))) ((c .before .before .before .before .before .before .before .before .before .before .before .args .near) .accepted) (writtenForm (now (c .before .before .before .before .before .before .before .before .before .before .before .args .datagram)))) (now (c .before .before .before .before .before .before .before .before .before .before .before .args .store))) (c .before .before .before .before .before .row-start .ensures .0)),
+      ),
     )
 
 pub offer-spec : {M : Type 1} → statement M

@@ -1,6 +1,7 @@
 -- `send` meets its contract: refused, it leaves the buffer as it was; else the row's record stands at its start (`row-copied`).
 -- Assumes nothing.
 use Prim.Native.Nat.{ℕ, _+_, _-_, _≤_}
+use mathlib.Core.List.{[], _∷_}
 use mathlib.Core.Path.{sym, ap, ap₂, _∙_}
 use lib.ListN.{length, take, drop, length-take, length-drop}
 use denote.Ref.{now}
@@ -23,7 +24,7 @@ returns : tie.Need-returns
 unfolding sent sentOut
 returns c =
     let no = ne-eqb (first (sendRules (c .before .before .before .before .args .near) (now (c .before .before .before .before .args .store)) (c .before .before .before .before .args .i) (length (now (c .before .before .before .before .args .out))))) 0 (λ e. c .if1 .taken (c .before .send-refusal .ensures ∙ e)) in
-    (rw no (ap Refused (c .before .send-refusal .ensures)), rw no)
+    (rw no (ap Refused (c .before .send-refusal .ensures)), (rw no (ap (λ (n : ℕ). n ∷ []) (c .before .send-refusal .ensures)), rw no))
 
 row-start-requires : tie.Need-row-start-requires
 row-start-requires c κs = search needs
@@ -58,10 +59,13 @@ returns-2 c =
     let yes = eq-eqb (first (sendRules (c .before .before .before .before .before .before .before .before .before .before .before .before .args .near) (now (c .before .before .before .before .before .before .before .before .before .before .before .before .args .store)) (c .before .before .before .before .before .before .before .before .before .before .before .before .args .i) (length (now (c .before .before .before .before .before .before .before .before .before .before .before .before .args .out))))) 0 (sym (c .before .before .before .before .before .before .before .before .before .send-refusal .ensures) ∙ c .before .before .before .before .before .before .before .before .if1 .left) in
     let start : rowStart (c .before .before .before .before .before .before .before .before .before .before .before .before .args .i) ≤ 1344 = omega (arith, c .before .before .before .before .before .before .before .row-start .ensures) in (
       rw yes (ap Size (c .before .before .before .before .before .record-size .ensures ∙ ap recordSize (c .before .before .before .before .before .before .u8-at .ensures ∙ ap (λ (n : ℕ). num 1 n (now (c .before .before .before .before .before .before .before .before .before .before .before .before .args .store))) (c .before .before .before .before .before .before .before .row-start .ensures .0)))),
-      rw yes
-          (c .before .before .copy .ensures
-          ∙ ap₂ (λ (a n : ℕ). splice 0 (take (a + n - a) (drop a (now (c .before .before .before .before .before .before .before .before .before .before .before .before .args .store)))) (now (c .before .before .before .before .before .before .before .before .before .before .before .before .args .out))) (c .before .before .before .before .before .before .before .row-start .ensures .0) (c .before .before .before .before .before .record-size .ensures ∙ ap recordSize (c .before .before .before .before .before .before .u8-at .ensures ∙ ap (λ (n : ℕ). num 1 n (now (c .before .before .before .before .before .before .before .before .before .before .before .before .args .store))) (c .before .before .before .before .before .before .before .row-start .ensures .0)))
-          ∙ row-copied (now (c .before .before .before .before .before .before .before .before .before .before .before .before .args .store)) (now (c .before .before .before .before .before .before .before .before .before .before .before .before .args .out)) (c .before .before .before .before .before .before .before .before .before .before .before .before .args .i) ((send-fits (c .before .before .before .before .before .before .before .before .before .before .before .before .args .near) (now (c .before .before .before .before .before .before .before .before .before .before .before .before .args .store)) (c .before .before .before .before .before .before .before .before .before .before .before .before .args .i) (length (now (c .before .before .before .before .before .before .before .before .before .before .before .before .args .out))) (sym (c .before .before .before .before .before .before .before .before .before .send-refusal .ensures) ∙ c .before .before .before .before .before .before .before .before .if1 .left)) .full) start ((send-fits (c .before .before .before .before .before .before .before .before .before .before .before .before .args .near) (now (c .before .before .before .before .before .before .before .before .before .before .before .before .args .store)) (c .before .before .before .before .before .before .before .before .before .before .before .before .args .i) (length (now (c .before .before .before .before .before .before .before .before .before .before .before .before .args .out))) (sym (c .before .before .before .before .before .before .before .before .before .send-refusal .ensures) ∙ c .before .before .before .before .before .before .before .before .if1 .left)) .space)),
+      (
+        rw yes (ap (λ (n : ℕ). 0 ∷ n ∷ []) (c .before .before .before .before .before .record-size .ensures ∙ ap recordSize (c .before .before .before .before .before .before .u8-at .ensures ∙ ap (λ (n : ℕ). num 1 n (now (c .before .before .before .before .before .before .before .before .before .before .before .before .args .store))) (c .before .before .before .before .before .before .before .row-start .ensures .0)))),
+        rw yes
+            (c .before .before .copy .ensures
+            ∙ ap₂ (λ (a n : ℕ). splice 0 (take (a + n - a) (drop a (now (c .before .before .before .before .before .before .before .before .before .before .before .before .args .store)))) (now (c .before .before .before .before .before .before .before .before .before .before .before .before .args .out))) (c .before .before .before .before .before .before .before .row-start .ensures .0) (c .before .before .before .before .before .record-size .ensures ∙ ap recordSize (c .before .before .before .before .before .before .u8-at .ensures ∙ ap (λ (n : ℕ). num 1 n (now (c .before .before .before .before .before .before .before .before .before .before .before .before .args .store))) (c .before .before .before .before .before .before .before .row-start .ensures .0)))
+            ∙ row-copied (now (c .before .before .before .before .before .before .before .before .before .before .before .before .args .store)) (now (c .before .before .before .before .before .before .before .before .before .before .before .before .args .out)) (c .before .before .before .before .before .before .before .before .before .before .before .before .args .i) ((send-fits (c .before .before .before .before .before .before .before .before .before .before .before .before .args .near) (now (c .before .before .before .before .before .before .before .before .before .before .before .before .args .store)) (c .before .before .before .before .before .before .before .before .before .before .before .before .args .i) (length (now (c .before .before .before .before .before .before .before .before .before .before .before .before .args .out))) (sym (c .before .before .before .before .before .before .before .before .before .send-refusal .ensures) ∙ c .before .before .before .before .before .before .before .before .if1 .left)) .full) start ((send-fits (c .before .before .before .before .before .before .before .before .before .before .before .before .args .near) (now (c .before .before .before .before .before .before .before .before .before .before .before .before .args .store)) (c .before .before .before .before .before .before .before .before .before .before .before .before .args .i) (length (now (c .before .before .before .before .before .before .before .before .before .before .before .before .args .out))) (sym (c .before .before .before .before .before .before .before .before .before .send-refusal .ensures) ∙ c .before .before .before .before .before .before .before .before .if1 .left)) .space)),
+      ),
     )
 
 pub send-spec : {M : Type 1} → statement M

@@ -1,6 +1,7 @@
 -- `take_reply` meets its contract: refused, it changes nothing; else the acknowledged count is the later of the two.
 -- Assumes nothing.
 use Prim.Native.Nat.{ℕ}
+use mathlib.Core.List.{[], _∷_}
 use mathlib.Core.Path.{sym, ap, _∙_}
 use denote.Ref.{now}
 use borrow.Author.Tests.{eq-eqb, ne-eqb}
@@ -18,8 +19,11 @@ reply-refusal-requires c κs = search needs
 returns : tie.Need-returns
 unfolding replied
 returns c =
-    rw
-    (ne-eqb (first (replyRules (c .before .before .before .args .near) (now (c .before .before .before .args .received)))) 0 (λ e. c .if1 .taken (c .before .reply-refusal .ensures ∙ e))) (ap (λ (n : ℕ). record { near = c .before .before .before .args .near; answer = Refused n }) (c .before .reply-refusal .ensures))
+    let given = c .before .before .before .args in
+    let no = ne-eqb (first (replyRules (given .near) (now (given .received)))) 0 (λ e. c .if1 .taken (c .before .reply-refusal .ensures ∙ e)) in (
+      rw no (ap (λ (n : ℕ). record { near = given .near; answer = Refused n }) (c .before .reply-refusal .ensures)),
+      rw no (ap (λ (n : ℕ). n ∷ []) (c .before .reply-refusal .ensures)),
+    )
 
 u32-at-requires : tie.Need-u32-at-requires
 u32-at-requires c κs = reply-head (c .before .before .before .args .near) (now (c .before .before .before .args .received)) (sym (c .before .reply-refusal .ensures) ∙ c .if1 .left)
@@ -30,8 +34,12 @@ later-requires c κs = search needs
 returns-2 : tie.Need-returns-2
 unfolding replied
 returns-2 c =
-    rw
-    (eq-eqb (first (replyRules (c .before .before .before .before .before .args .near) (now (c .before .before .before .before .before .args .received)))) 0 (sym (c .before .before .before .reply-refusal .ensures) ∙ c .before .before .if1 .left)) (ap (λ (n : ℕ). record { near = record { accepted = c .before .before .before .before .before .args .near .accepted; acknowledged = n }; answer = Acknowledged n }) (c .later .ensures ∙ ap (acknowledgedAfter (c .before .before .before .before .before .args .near .acknowledged)) (c .before .u32-at .ensures)))
+    let given = c .before .before .before .before .before .args in
+    let yes = eq-eqb (first (replyRules (given .near) (now (given .received)))) 0 (sym (c .before .before .before .reply-refusal .ensures) ∙ c .before .before .if1 .left) in
+    let count = c .later .ensures ∙ ap (acknowledgedAfter (given .near .acknowledged)) (c .before .u32-at .ensures) in (
+      rw yes (ap (λ (n : ℕ). record { near = record { accepted = given .near .accepted; acknowledged = n }; answer = Acknowledged n }) count),
+      rw yes (ap (λ (n : ℕ). 0 ∷ n ∷ []) count),
+    )
 
 pub take-reply-spec : {M : Type 1} → statement M
 take-reply-spec =
