@@ -20,10 +20,14 @@ mul-result : tie.Need-mul-result
 mul-result c = search needs
 
 returns : tie.Need-returns
-returns c = omega (arith, c .before .reading-refusal .ensures, refusal-read (now (c .before .before .before .args .bytes)), refused-size (now (c .before .before .before .args .bytes)) (λ e. c .if1 .taken (c .before .reading-refusal .ensures ∙ e)))
+returns c =
+    let given = c .before .before .before .args in
+    omega (arith, c .before .reading-refusal .ensures, refusal-read (now (given .bytes)), refused-size (now (given .bytes)) (λ e. c .if1 .taken (c .before .reading-refusal .ensures ∙ e)))
 
 returns-2 : tie.Need-returns-2
-returns-2 c = omega (arith, refusal-read (now (c .before .before .before .args .bytes)), (sym (c .before .reading-refusal .ensures) ∙ c .if1 .left), taken-size (now (c .before .before .before .args .bytes)) (sym (c .before .reading-refusal .ensures) ∙ c .if1 .left))
+returns-2 c =
+    let given = c .before .before .before .args in
+    omega (arith, refusal-read (now (given .bytes)), (sym (c .before .reading-refusal .ensures) ∙ c .if1 .left), taken-size (now (given .bytes)) (sym (c .before .reading-refusal .ensures) ∙ c .if1 .left))
 
 pub altuvrin-datagram-spec : {M : Type 1} → statement M
 altuvrin-datagram-spec =

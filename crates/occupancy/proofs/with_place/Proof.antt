@@ -11,11 +11,13 @@ power-requires : tie.Need-power-requires
 power-requires c κs = search needs
 
 add-result : tie.Need-add-result
-add-result c = record {
-  fits =
-      subst (λ (n : ℕ). c .before .args .word + n < 65536) (sym (c .power .ensures))
-      (taken-fits 16 (c .before .args .word) (c .before .args .i) (search needs) (c .before .pre .0) (c .before .pre .1));
-}
+add-result c =
+    let given = c .before .args in
+    record {
+      fits =
+          subst (λ (n : ℕ). given .word + n < 65536) (sym (c .power .ensures))
+          (taken-fits 16 (given .word) (given .i) (search needs) (c .before .pre .0) (c .before .pre .1));
+    }
 
 returns : tie.Need-returns
 returns c = ap (λ (n : ℕ). c .before .args .word + n) (c .power .ensures)

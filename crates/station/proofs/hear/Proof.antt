@@ -56,24 +56,27 @@ signal-requires c κs = search needs
 returns : tie.Need-returns
 unfolding heard step
 returns c =
-    let s = c .before .before .before .before .before .args .station in
-    let d = now (c .before .before .before .before .before .args .datagram) in
+    let given = c .before .before .before .before .before .args in
+    let s = given .station in
+    let d = now (given .datagram) in
     let e = sym (c .before .before .before .read .ensures) ∙ c .before .reading .given .1 in
     sym (ap (λ (r : Reading). step s r (firstWord d)) e)
 
 returns-2 : tie.Need-returns-2
 unfolding heard step
 returns-2 c =
-    let s = c .before .before .before .before .before .before .args .station in
-    let d = now (c .before .before .before .before .before .before .args .datagram) in
+    let given = c .before .before .before .before .before .before .args in
+    let s = given .station in
+    let d = now (given .datagram) in
     let e = sym (c .before .before .before .before .read .ensures) ∙ c .before .before .reading2 .given .1 in
     c .transmitter .ensures ∙ sym (ap (λ (r : Reading). step s r (firstWord d)) e)
 
 returns-3 : tie.Need-returns-3
 unfolding heard step
 returns-3 c =
-    let s = c .before .before .before .before .before .before .before .before .args .station in
-    let d = now (c .before .before .before .before .before .before .before .before .args .datagram) in
+    let given = c .before .before .before .before .before .before .before .before .args in
+    let s = given .station in
+    let d = now (given .datagram) in
     let e = sym (c .before .before .before .before .before .before .read .ensures) ∙ c .before .before .before .before .reading3 .given .1 in
     let g = c .before .before .before .before .reading3 .given .0 .0 in
     let n = c .before .before .before .before .reading3 .given .0 .1 .0 in

@@ -23,14 +23,16 @@ both-requires c κs = search needs
 returns : tie.Need-returns
 unfolding hearMessage
 returns c =
-    let inside = unitAt (c .before .before .before .before .args .t1) (c .before .before .before .before .args .i) .inside in
+    let given = c .before .before .before .before .args in
+    let inside = unitAt (given .t1) (given .i) .inside in
     let test = c .before .both .ensures ∙ ap (λ (b : Bool). inside && b) (c .before .before .is-fine .ensures) in
     rw (ap not (sym test ∙ c .if1 .taken))
 
 returns-2 : tie.Need-returns-2
 unfolding hearMessage
 returns-2 c =
-    let inside = unitAt (c .before .before .before .before .args .t1) (c .before .before .before .before .args .i) .inside in
+    let given = c .before .before .before .before .args in
+    let inside = unitAt (given .t1) (given .i) .inside in
     let test = c .before .both .ensures ∙ ap (λ (b : Bool). inside && b) (c .before .before .is-fine .ensures) in
     rw (ap not (sym test ∙ c .if1 .left))
 

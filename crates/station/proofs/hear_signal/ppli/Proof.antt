@@ -26,7 +26,9 @@ with-unit-requires c κs = search needs
 
 returns-2 : tie.Need-returns-2
 unfolding hearMessage afterPpli
-returns-2 c = rw (agrees _ _ (c .before .before .if1 .left)) (ap (answering 43) (c .with-unit .ensures ∙ ap (withUnit (c .before .before .before .before .before .args .t1) (c .before .before .before .before .before .args .i)) (c .before .heard-unit .ensures)))
+returns-2 c =
+    let given = c .before .before .before .before .before .args in
+    rw (agrees _ _ (c .before .before .if1 .left)) (ap (answering 43) (c .with-unit .ensures ∙ ap (withUnit (given .t1) (given .i)) (c .before .heard-unit .ensures)))
 
 pub ppli-spec : {M : Type 1} → statement M
 ppli-spec =

@@ -26,8 +26,9 @@ returns c =
 returns-2 : tie.Need-returns-2
 unfolding hearSignal signalRules
 returns-2 c =
-    let s = c .before .before .before .before .before .args .t1 in
-    let g = c .before .before .before .before .before .args .g in
+    let given = c .before .before .before .before .before .args in
+    let s = given .t1 in
+    let g = given .g in
     let i = c .before .before .before .place-of .result in
     let at = c .before .before .before .place-of .ensures ∙ ap (placeOf s) (c .before .before .before .before .key-of .ensures) in
     rw (← at, lt-ltb i 16 (c .before .before .if1 .left), differs (g .network .net) (s .net) (c .if2 .taken))
@@ -44,8 +45,9 @@ other-id-requires c κs = search needs
 returns-3 : tie.Need-returns-3
 unfolding hearSignal signalRules
 returns-3 c =
-    let s = c .before .before .before .before .before .before .before .before .args .t1 in
-    let g = c .before .before .before .before .before .before .before .before .args .g in
+    let given = c .before .before .before .before .before .before .before .before .args in
+    let s = given .t1 in
+    let g = given .g in
     let i = c .before .before .before .before .before .before .place-of .result in
     let at = c .before .before .before .before .before .before .place-of .ensures ∙ ap (placeOf s) (c .before .before .before .before .before .before .before .key-of .ensures) in
     rw (← at, lt-ltb i 16 (c .before .before .before .before .before .if1 .left), agrees (g .network .net) (s .net) (c .before .before .before .if2 .left), sym (c .before .other-id .ensures) ∙ c .if3 .taken)
@@ -59,8 +61,9 @@ taken-requires c κs = search needs
 returns-4 : tie.Need-returns-4
 unfolding hearSignal signalRules
 returns-4 c =
-    let s = c .before .before .before .before .before .before .before .before .before .before .args .t1 in
-    let g = c .before .before .before .before .before .before .before .before .before .before .args .g in
+    let given = c .before .before .before .before .before .before .before .before .before .before .args in
+    let s = given .t1 in
+    let g = given .g in
     let i = c .before .before .before .before .before .before .before .before .place-of .result in
     let at = c .before .before .before .before .before .before .before .before .place-of .ensures ∙ ap (placeOf s) (c .before .before .before .before .before .before .before .before .before .key-of .ensures) in
     rw (← at, lt-ltb i 16 (c .before .before .before .before .before .before .before .if1 .left), agrees (g .network .net) (s .net) (c .before .before .before .before .before .if2 .left), sym (c .before .before .before .other-id .ensures) ∙ c .before .before .if3 .left) (c .taken .ensures ∙ ap (hearMessage s i) (c .before .message .ensures))

@@ -25,13 +25,19 @@ other-requires : tie.Need-other-requires
 other-requires c κs = search needs
 
 returns : tie.Need-returns
-returns c = c .net-entry .ensures ∙ sym (ap (hearMessage (c .before .before .before .args .s) (c .before .before .before .args .i)) (c .before .enum-told .given .1))
+returns c =
+    let given = c .before .before .before .args in
+    c .net-entry .ensures ∙ sym (ap (hearMessage (given .s) (given .i)) (c .before .enum-told .given .1))
 
 returns-2 : tie.Need-returns-2
-returns-2 c = c .ppli .ensures ∙ sym (ap (hearMessage (c .before .before .before .args .s) (c .before .before .before .args .i)) (c .before .enum-told2 .given .1))
+returns-2 c =
+    let given = c .before .before .before .args in
+    c .ppli .ensures ∙ sym (ap (hearMessage (given .s) (given .i)) (c .before .enum-told2 .given .1))
 
 returns-3 : tie.Need-returns-3
-returns-3 c = c .other .ensures ∙ sym (ap (hearMessage (c .before .before .before .args .s) (c .before .before .before .args .i)) (c .before .enum-told3 .given .1))
+returns-3 c =
+    let given = c .before .before .before .args in
+    c .other .ensures ∙ sym (ap (hearMessage (given .s) (given .i)) (c .before .enum-told3 .given .1))
 
 pub taken-spec : {M : Type 1} → statement M
 taken-spec =

@@ -21,7 +21,9 @@ with-unit-requires c κs = search needs
 
 returns : tie.Need-returns
 unfolding renew
-returns c = ap (answering 41) (c .with-unit .ensures ∙ ap (withUnit (c .before .before .before .args .t1) (c .before .before .before .args .i)) (c .before .renewed-unit .ensures))
+returns c =
+    let given = c .before .before .before .args in
+    ap (answering 41) (c .with-unit .ensures ∙ ap (withUnit (given .t1) (given .i)) (c .before .renewed-unit .ensures))
 
 pub renew-unit-spec : {M : Type 1} → statement M
 renew-unit-spec =

@@ -32,8 +32,9 @@ offer-refusal-requires c κs = search needs
 returns : tie.Need-returns
 unfolding offered storeAfter
 returns c =
-    let no = ne-eqb (first (offerRules (c .before .before .before .before .before .args .near) (now (c .before .before .before .before .before .args .store)) (now (c .before .before .before .before .before .args .datagram)))) 0 (λ e. c .if1 .taken ((c .before .offer-refusal .ensures ∙ ap (λ (a : Reading). first (offerRulesOf (c .before .before .before .before .before .args .near) (length (now (c .before .before .before .before .before .args .store))) a)) (c .before .before .read .ensures)) ∙ e)) in
-    (rw no (ap (λ (n : ℕ). record { near = (c .before .before .before .before .before .args .near); answer = Refused n }) (c .before .offer-refusal .ensures ∙ ap (λ (a : Reading). first (offerRulesOf (c .before .before .before .before .before .args .near) (length (now (c .before .before .before .before .before .args .store))) a)) (c .before .before .read .ensures))), (rw no (ap (λ (n : ℕ). n ∷ []) (c .before .offer-refusal .ensures ∙ ap (λ (a : Reading). first (offerRulesOf (c .before .before .before .before .before .args .near) (length (now (c .before .before .before .before .before .args .store))) a)) (c .before .before .read .ensures))), rw no))
+    let given = c .before .before .before .before .before .args in
+    let no = ne-eqb (first (offerRules (given .near) (now (given .store)) (now (given .datagram)))) 0 (λ e. c .if1 .taken ((c .before .offer-refusal .ensures ∙ ap (λ (a : Reading). first (offerRulesOf (given .near) (length (now (given .store))) a)) (c .before .before .read .ensures)) ∙ e)) in
+    (rw no (ap (λ (n : ℕ). record { near = (given .near); answer = Refused n }) (c .before .offer-refusal .ensures ∙ ap (λ (a : Reading). first (offerRulesOf (given .near) (length (now (given .store))) a)) (c .before .before .read .ensures))), (rw no (ap (λ (n : ℕ). n ∷ []) (c .before .offer-refusal .ensures ∙ ap (λ (a : Reading). first (offerRulesOf (given .near) (length (now (given .store))) a)) (c .before .before .read .ensures))), rw no))
 
 row-start-requires : tie.Need-row-start-requires
 row-start-requires c κs = search needs
@@ -42,7 +43,10 @@ kind-of-requires : tie.Need-kind-of-requires
 kind-of-requires c κs = search needs
 
 cast-kind : tie.Need-cast-kind
-cast-kind c = omega (arith, (c .kind-of .ensures ∙ ap kindOf (c .before .before .before .before .read .ensures)), carried-byte (now (c .before .before .before .before .before .before .before .args .datagram)) ((offer-fits (c .before .before .before .before .before .before .before .args .near) (length (now (c .before .before .before .before .before .before .before .args .store))) (reading (now (c .before .before .before .before .before .before .before .args .datagram))) (sym (c .before .before .before .offer-refusal .ensures ∙ ap (λ (a : Reading). first (offerRulesOf (c .before .before .before .before .before .before .before .args .near) (length (now (c .before .before .before .before .before .before .before .args .store))) a)) (c .before .before .before .before .read .ensures)) ∙ c .before .before .if1 .left)) .carried))
+cast-kind c =
+    let given = c .before .before .before .before .before .before .before .args in
+    let fits = offer-fits (given .near) (length (now (given .store))) (reading (now (given .datagram))) (sym (c .before .before .before .offer-refusal .ensures ∙ ap (λ (a : Reading). first (offerRulesOf (given .near) (length (now (given .store))) a)) (c .before .before .before .before .read .ensures)) ∙ c .before .before .if1 .left) in
+    omega (arith, (c .kind-of .ensures ∙ ap kindOf (c .before .before .before .before .read .ensures)), carried-byte (now (given .datagram)) (fits .carried))
 
 add-put-record : tie.Need-add-put-record
 add-put-record c = search needs
@@ -54,13 +58,22 @@ part-put-record-start : tie.Need-part-put-record-start
 part-put-record-start c = search needs
 
 part-put-record-end : tie.Need-part-put-record-end
-part-put-record-end c = omega (arith, c .before .row-start .ensures .1, (offer-fits (c .before .before .before .before .before .before .before .args .near) (length (now (c .before .before .before .before .before .before .before .args .store))) (reading (now (c .before .before .before .before .before .before .before .args .datagram))) (sym (c .before .before .before .offer-refusal .ensures ∙ ap (λ (a : Reading). first (offerRulesOf (c .before .before .before .before .before .before .before .args .near) (length (now (c .before .before .before .before .before .before .before .args .store))) a)) (c .before .before .before .before .read .ensures)) ∙ c .before .before .if1 .left)) .store)
+part-put-record-end c =
+    let given = c .before .before .before .before .before .before .before .args in
+    let fits = offer-fits (given .near) (length (now (given .store))) (reading (now (given .datagram))) (sym (c .before .before .before .offer-refusal .ensures ∙ ap (λ (a : Reading). first (offerRulesOf (given .near) (length (now (given .store))) a)) (c .before .before .before .before .read .ensures)) ∙ c .before .before .if1 .left) in
+    omega (arith, c .before .row-start .ensures .1, fits .store)
 
 put-record-requires : tie.Need-put-record-requires
-put-record-requires c κs = (simp (length-take, length-drop) (omega (arith, c .before .before .row-start .ensures .1, (offer-fits (c .before .before .before .before .before .before .before .before .args .near) (length (now (c .before .before .before .before .before .before .before .before .args .store))) (reading (now (c .before .before .before .before .before .before .before .before .args .datagram))) (sym (c .before .before .before .before .offer-refusal .ensures ∙ ap (λ (a : Reading). first (offerRulesOf (c .before .before .before .before .before .before .before .before .args .near) (length (now (c .before .before .before .before .before .before .before .before .args .store))) a)) (c .before .before .before .before .before .read .ensures)) ∙ c .before .before .before .if1 .left)) .store)), (offer-fits (c .before .before .before .before .before .before .before .before .args .near) (length (now (c .before .before .before .before .before .before .before .before .args .store))) (reading (now (c .before .before .before .before .before .before .before .before .args .datagram))) (sym (c .before .before .before .before .offer-refusal .ensures ∙ ap (λ (a : Reading). first (offerRulesOf (c .before .before .before .before .before .before .before .before .args .near) (length (now (c .before .before .before .before .before .before .before .before .args .store))) a)) (c .before .before .before .before .before .read .ensures)) ∙ c .before .before .before .if1 .left)) .carried)
+put-record-requires c κs =
+    let given = c .before .before .before .before .before .before .before .before .args in
+    let fits = offer-fits (given .near) (length (now (given .store))) (reading (now (given .datagram))) (sym (c .before .before .before .before .offer-refusal .ensures ∙ ap (λ (a : Reading). first (offerRulesOf (given .near) (length (now (given .store))) a)) (c .before .before .before .before .before .read .ensures)) ∙ c .before .before .before .if1 .left) in
+    (simp (length-take, length-drop) (omega (arith, c .before .before .row-start .ensures .1, fits .store)), fits .carried)
 
 add-t18 : tie.Need-add-t18
-add-t18 c = omega (arith, (offer-fits (c .before .before .before .before .before .before .before .before .before .before .before .args .near) (length (now (c .before .before .before .before .before .before .before .before .before .before .before .args .store))) (reading (now (c .before .before .before .before .before .before .before .before .before .before .before .args .datagram))) (sym (c .before .before .before .before .before .before .before .offer-refusal .ensures ∙ ap (λ (a : Reading). first (offerRulesOf (c .before .before .before .before .before .before .before .before .before .before .before .args .near) (length (now (c .before .before .before .before .before .before .before .before .before .before .before .args .store))) a)) (c .before .before .before .before .before .before .before .before .read .ensures)) ∙ c .before .before .before .before .before .before .if1 .left)) .number, c .before .before .before .before .before .before .before .before .before .before .before .good)
+add-t18 c =
+    let given = c .before .before .before .before .before .before .before .before .before .before .before .args in
+    let fits = offer-fits (given .near) (length (now (given .store))) (reading (now (given .datagram))) (sym (c .before .before .before .before .before .before .before .offer-refusal .ensures ∙ ap (λ (a : Reading). first (offerRulesOf (given .near) (length (now (given .store))) a)) (c .before .before .before .before .before .before .before .before .read .ensures)) ∙ c .before .before .before .before .before .before .if1 .left) in
+    omega (arith, fits .number, c .before .before .before .before .before .before .before .before .before .before .before .good)
 
 same-length : tie.Need-same-length
 same-length c = search needs
@@ -68,17 +81,19 @@ same-length c = search needs
 returns-2 : tie.Need-returns-2
 unfolding offered storeAfter
 returns-2 c =
-    let yes = eq-eqb (first (offerRules (c .before .before .before .before .before .before .before .before .before .before .before .args .near) (now (c .before .before .before .before .before .before .before .before .before .before .before .args .store)) (now (c .before .before .before .before .before .before .before .before .before .before .before .args .datagram)))) 0 (sym (c .before .before .before .before .before .before .before .offer-refusal .ensures ∙ ap (λ (a : Reading). first (offerRulesOf (c .before .before .before .before .before .before .before .before .before .before .before .args .near) (length (now (c .before .before .before .before .before .before .before .before .before .before .before .args .store))) a)) (c .before .before .before .before .before .before .before .before .read .ensures)) ∙ c .before .before .before .before .before .before .if1 .left) in
-    let room : (c .before .before .before .before .before .row-start .result) + 192 ≤ length (now (c .before .before .before .before .before .before .before .before .before .before .before .args .store)) = omega (arith, c .before .before .before .before .before .row-start .ensures .1, (offer-fits (c .before .before .before .before .before .before .before .before .before .before .before .args .near) (length (now (c .before .before .before .before .before .before .before .before .before .before .before .args .store))) (reading (now (c .before .before .before .before .before .before .before .before .before .before .before .args .datagram))) (sym (c .before .before .before .before .before .before .before .offer-refusal .ensures ∙ ap (λ (a : Reading). first (offerRulesOf (c .before .before .before .before .before .before .before .before .before .before .before .args .near) (length (now (c .before .before .before .before .before .before .before .before .before .before .before .args .store))) a)) (c .before .before .before .before .before .before .before .before .read .ensures)) ∙ c .before .before .before .before .before .before .if1 .left)) .store) in
-    let long : length (recordOf (kindOf (reading (now (c .before .before .before .before .before .before .before .before .before .before .before .args .datagram)))) ((c .before .before .before .before .before .before .before .before .before .before .before .args .near) .accepted) (writtenForm (now (c .before .before .before .before .before .before .before .before .before .before .before .args .datagram)))) ≤ 185 = record-short (kindOf (reading (now (c .before .before .before .before .before .before .before .before .before .before .before .args .datagram)))) ((c .before .before .before .before .before .before .before .before .before .before .before .args .near) .accepted) (now (c .before .before .before .before .before .before .before .before .before .before .before .args .datagram)) ((offer-fits (c .before .before .before .before .before .before .before .before .before .before .before .args .near) (length (now (c .before .before .before .before .before .before .before .before .before .before .before .args .store))) (reading (now (c .before .before .before .before .before .before .before .before .before .before .before .args .datagram))) (sym (c .before .before .before .before .before .before .before .offer-refusal .ensures ∙ ap (λ (a : Reading). first (offerRulesOf (c .before .before .before .before .before .before .before .before .before .before .before .args .near) (length (now (c .before .before .before .before .before .before .before .before .before .before .before .args .store))) a)) (c .before .before .before .before .before .before .before .before .read .ensures)) ∙ c .before .before .before .before .before .before .if1 .left)) .carried) in (
+    let given = c .before .before .before .before .before .before .before .before .before .before .before .args in
+    let fits = offer-fits (given .near) (length (now (given .store))) (reading (now (given .datagram))) (sym (c .before .before .before .before .before .before .before .offer-refusal .ensures ∙ ap (λ (a : Reading). first (offerRulesOf (given .near) (length (now (given .store))) a)) (c .before .before .before .before .before .before .before .before .read .ensures)) ∙ c .before .before .before .before .before .before .if1 .left) in
+    let yes = eq-eqb (first (offerRules (given .near) (now (given .store)) (now (given .datagram)))) 0 (sym (c .before .before .before .before .before .before .before .offer-refusal .ensures ∙ ap (λ (a : Reading). first (offerRulesOf (given .near) (length (now (given .store))) a)) (c .before .before .before .before .before .before .before .before .read .ensures)) ∙ c .before .before .before .before .before .before .if1 .left) in
+    let room : (c .before .before .before .before .before .row-start .result) + 192 ≤ length (now (given .store)) = omega (arith, c .before .before .before .before .before .row-start .ensures .1, fits .store) in
+    let long : length (recordOf (kindOf (reading (now (given .datagram)))) (given .near .accepted) (writtenForm (now (given .datagram)))) ≤ 185 = record-short (kindOf (reading (now (given .datagram)))) (given .near .accepted) (now (given .datagram)) (fits .carried) in (
       rw yes,
       (
         rw yes,
         rw yes
-            (ap (λ (l : List ℕ). take (c .before .before .before .before .before .row-start .result) (now (c .before .before .before .before .before .before .before .before .before .before .before .args .store)) ++ (l ++ drop ((c .before .before .before .before .before .row-start .result) + 192 - (c .before .before .before .before .before .row-start .result)) (drop (c .before .before .before .before .before .row-start .result) (now (c .before .before .before .before .before .before .before .before .before .before .before .args .store)))))
-            (c .before .before .put-record .ensures ∙ ap (λ (k : ℕ). splice 0 (recordOf k ((c .before .before .before .before .before .before .before .before .before .before .before .args .near) .accepted) (writtenForm (now (c .before .before .before .before .before .before .before .before .before .before .before .args .datagram)))) (take ((c .before .before .before .before .before .row-start .result) + 192 - (c .before .before .before .before .before .row-start .result)) (drop (c .before .before .before .before .before .row-start .result) (now (c .before .before .before .before .before .before .before .before .before .before .before .args .store))))) (c .before .before .before .before .kind-of .ensures ∙ ap kindOf (c .before .before .before .before .before .before .before .before .read .ensures)))
-            ∙ part-splice (c .before .before .before .before .before .row-start .result) ((c .before .before .before .before .before .row-start .result) + 192 - (c .before .before .before .before .before .row-start .result)) (recordOf (kindOf (reading (now (c .before .before .before .before .before .before .before .before .before .before .before .args .datagram)))) ((c .before .before .before .before .before .before .before .before .before .before .before .args .near) .accepted) (writtenForm (now (c .before .before .before .before .before .before .before .before .before .before .before .args .datagram)))) (now (c .before .before .before .before .before .before .before .before .before .before .before .args .store)) (omega arith) (omega arith)
-            ∙ ap (λ (a : ℕ). splice a (recordOf (kindOf (reading (now (c .before .before .before .before .before .before .before .before .before .before .before .args .datagram)))) ((c .before .before .before .before .before .before .before .before .before .before .before .args .near) .accepted) (writtenForm (now (c .before .before .before .before .before .before .before .before .before .before .before .args .datagram)))) (now (c .before .before .before .before .before .before .before .before .before .before .before .args .store))) (c .before .before .before .before .before .row-start .ensures .0)),
+            (ap (λ (l : List ℕ). take (c .before .before .before .before .before .row-start .result) (now (given .store)) ++ (l ++ drop ((c .before .before .before .before .before .row-start .result) + 192 - (c .before .before .before .before .before .row-start .result)) (drop (c .before .before .before .before .before .row-start .result) (now (given .store)))))
+            (c .before .before .put-record .ensures ∙ ap (λ (k : ℕ). splice 0 (recordOf k (given .near .accepted) (writtenForm (now (given .datagram)))) (take ((c .before .before .before .before .before .row-start .result) + 192 - (c .before .before .before .before .before .row-start .result)) (drop (c .before .before .before .before .before .row-start .result) (now (given .store))))) (c .before .before .before .before .kind-of .ensures ∙ ap kindOf (c .before .before .before .before .before .before .before .before .read .ensures)))
+            ∙ part-splice (c .before .before .before .before .before .row-start .result) ((c .before .before .before .before .before .row-start .result) + 192 - (c .before .before .before .before .before .row-start .result)) (recordOf (kindOf (reading (now (given .datagram)))) (given .near .accepted) (writtenForm (now (given .datagram)))) (now (given .store)) (omega arith) (omega arith)
+            ∙ ap (λ (a : ℕ). splice a (recordOf (kindOf (reading (now (given .datagram)))) (given .near .accepted) (writtenForm (now (given .datagram)))) (now (given .store))) (c .before .before .before .before .before .row-start .ensures .0)),
       ),
     )
 

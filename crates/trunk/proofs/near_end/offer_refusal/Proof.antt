@@ -23,9 +23,10 @@ number-requires c κs = search needs
 returns-2 : tie.Need-returns-2
 unfolding offerRulesOf
 returns-2 c =
+    let given = c .before .before .before .args in
     rw (
-      agrees (c .before .before .before .args .store-length) 1536 (c .before .before .if1 .left),
-      differs (numberOf (c .before .before .before .args .answer)) 0 (λ e. c .if2 .taken (c .before .number .ensures ∙ e)),
+      agrees (given .store-length) 1536 (c .before .before .if1 .left),
+      differs (numberOf (given .answer)) 0 (λ e. c .if2 .taken (c .before .number .ensures ∙ e)),
     ) (c .before .number .ensures)
 
 kind-of-requires : tie.Need-kind-of-requires
@@ -34,20 +35,22 @@ kind-of-requires c κs = search needs
 returns-3 : tie.Need-returns-3
 unfolding offerRulesOf
 returns-3 c =
+    let given = c .before .before .before .before .before .args in
     rw (
-      agrees (c .before .before .before .before .before .args .store-length) 1536 (c .before .before .before .before .if1 .left),
-      agrees (numberOf (c .before .before .before .before .before .args .answer)) 0 (sym (c .before .before .before .number .ensures) ∙ c .before .before .if2 .left),
-      eq-eqb (kindOf (c .before .before .before .before .before .args .answer)) 256 (sym (c .before .kind-of .ensures) ∙ c .if3 .taken),
+      agrees (given .store-length) 1536 (c .before .before .before .before .if1 .left),
+      agrees (numberOf (given .answer)) 0 (sym (c .before .before .before .number .ensures) ∙ c .before .before .if2 .left),
+      eq-eqb (kindOf (given .answer)) 256 (sym (c .before .kind-of .ensures) ∙ c .if3 .taken),
     )
 
 returns-4 : tie.Need-returns-4
 unfolding offerRulesOf
 returns-4 c =
+    let given = c .before .before .before .before .before .before .before .args in
     rw (
-      agrees (c .before .before .before .before .before .before .before .args .store-length) 1536 (c .before .before .before .before .before .before .if1 .left),
-      agrees (numberOf (c .before .before .before .before .before .before .before .args .answer)) 0 (sym (c .before .before .before .before .before .number .ensures) ∙ c .before .before .before .before .if2 .left),
-      ne-eqb (kindOf (c .before .before .before .before .before .before .before .args .answer)) 256 (λ e. c .before .before .if3 .left (c .before .before .before .kind-of .ensures ∙ e)),
-      eq-eqb (c .before .before .before .before .before .before .before .args .near .accepted) 4294967295 (c .if4 .taken),
+      agrees (given .store-length) 1536 (c .before .before .before .before .before .before .if1 .left),
+      agrees (numberOf (given .answer)) 0 (sym (c .before .before .before .before .before .number .ensures) ∙ c .before .before .before .before .if2 .left),
+      ne-eqb (kindOf (given .answer)) 256 (λ e. c .before .before .if3 .left (c .before .before .before .kind-of .ensures ∙ e)),
+      eq-eqb (given .near .accepted) 4294967295 (c .if4 .taken),
     )
 
 unacknowledged-requires : tie.Need-unacknowledged-requires
@@ -56,23 +59,25 @@ unacknowledged-requires c κs = search needs
 returns-5 : tie.Need-returns-5
 unfolding offerRulesOf
 returns-5 c =
+    let given = c .before .before .before .before .before .before .before .before .before .args in
     rw (
-      agrees (c .before .before .before .before .before .before .before .before .before .args .store-length) 1536 (c .before .before .before .before .before .before .before .before .if1 .left),
-      agrees (numberOf (c .before .before .before .before .before .before .before .before .before .args .answer)) 0 (sym (c .before .before .before .before .before .before .before .number .ensures) ∙ c .before .before .before .before .before .before .if2 .left),
-      ne-eqb (kindOf (c .before .before .before .before .before .before .before .before .before .args .answer)) 256 (λ e. c .before .before .before .before .if3 .left (c .before .before .before .before .before .kind-of .ensures ∙ e)),
-      ne-eqb (c .before .before .before .before .before .before .before .before .before .args .near .accepted) 4294967295 (c .before .before .if4 .left),
-      le-leb 8 (c .before .before .before .before .before .before .before .before .before .args .near .accepted - c .before .before .before .before .before .before .before .before .before .args .near .acknowledged) (rw (c .before .unacknowledged .ensures) at (c .if5 .taken)),
+      agrees (given .store-length) 1536 (c .before .before .before .before .before .before .before .before .if1 .left),
+      agrees (numberOf (given .answer)) 0 (sym (c .before .before .before .before .before .before .before .number .ensures) ∙ c .before .before .before .before .before .before .if2 .left),
+      ne-eqb (kindOf (given .answer)) 256 (λ e. c .before .before .before .before .if3 .left (c .before .before .before .before .before .kind-of .ensures ∙ e)),
+      ne-eqb (given .near .accepted) 4294967295 (c .before .before .if4 .left),
+      le-leb 8 (given .near .accepted - given .near .acknowledged) (rw (c .before .unacknowledged .ensures) at (c .if5 .taken)),
     )
 
 returns-6 : tie.Need-returns-6
 unfolding offerRulesOf
 returns-6 c =
+    let given = c .before .before .before .before .before .before .before .before .before .args in
     rw (
-      agrees (c .before .before .before .before .before .before .before .before .before .args .store-length) 1536 (c .before .before .before .before .before .before .before .before .if1 .left),
-      agrees (numberOf (c .before .before .before .before .before .before .before .before .before .args .answer)) 0 (sym (c .before .before .before .before .before .before .before .number .ensures) ∙ c .before .before .before .before .before .before .if2 .left),
-      ne-eqb (kindOf (c .before .before .before .before .before .before .before .before .before .args .answer)) 256 (λ e. c .before .before .before .before .if3 .left (c .before .before .before .before .before .kind-of .ensures ∙ e)),
-      ne-eqb (c .before .before .before .before .before .before .before .before .before .args .near .accepted) 4294967295 (c .before .before .if4 .left),
-      lt-leb 8 (c .before .before .before .before .before .before .before .before .before .args .near .accepted - c .before .before .before .before .before .before .before .before .before .args .near .acknowledged) (rw (c .before .unacknowledged .ensures) at (c .if5 .left)),
+      agrees (given .store-length) 1536 (c .before .before .before .before .before .before .before .before .if1 .left),
+      agrees (numberOf (given .answer)) 0 (sym (c .before .before .before .before .before .before .before .number .ensures) ∙ c .before .before .before .before .before .before .if2 .left),
+      ne-eqb (kindOf (given .answer)) 256 (λ e. c .before .before .before .before .if3 .left (c .before .before .before .before .before .kind-of .ensures ∙ e)),
+      ne-eqb (given .near .accepted) 4294967295 (c .before .before .if4 .left),
+      lt-leb 8 (given .near .accepted - given .near .acknowledged) (rw (c .before .unacknowledged .ensures) at (c .if5 .left)),
     )
 
 pub offer-refusal-spec : {M : Type 1} → statement M

@@ -59,19 +59,22 @@ same-length : tie.Need-same-length
 same-length c = search needs
 
 returns-2 : tie.Need-returns-2
-returns-2 c = c .before .before .write-transmitter .ensures .1 .1 ∙ writes-read-transmitter (now (c .before .before .before .before .before .before .before .before .before .before .args .datagram)) (c .before .before .before .before .before .t .given .0 .0) (now (c .before .before .before .before .before .before .before .before .before .before .args .out)) (sym (c .before .before .before .before .before .before .before .read .ensures) ∙ c .before .before .before .before .before .t .given .1) (omega arith)
+returns-2 c =
+    let given = c .before .before .before .before .before .before .before .before .before .before .args in
+    c .before .before .write-transmitter .ensures .1 .1 ∙ writes-read-transmitter (now (given .datagram)) (c .before .before .before .before .before .t .given .0 .0) (now (given .out)) (sym (c .before .before .before .before .before .before .before .read .ensures) ∙ c .before .before .before .before .before .t .given .1) (omega arith)
 
 same-length-2 : tie.Need-same-length-2
 same-length-2 c = search needs
 
 returns-3 : tie.Need-returns-3
 returns-3 c =
-    let body : take (52 + (c .before .before .before .before .before .before .s .given .0 .1 .0) - 52) (drop 52 (now (c .before .before .before .before .before .before .before .before .before .before .before .args .datagram))) ≡ bodyOf (now (c .before .before .before .before .before .before .before .before .before .before .before .args .datagram)) =
-    ap (λ (m : ℕ). take m (drop 52 (now (c .before .before .before .before .before .before .before .before .before .before .before .args .datagram)))) (add-sub-cancel-left 52 (c .before .before .before .before .before .before .s .given .0 .1 .0)) ∙ sym (body-there (now (c .before .before .before .before .before .before .before .before .before .before .before .args .datagram)) (c .before .before .before .before .before .before .s .given .0 .0) (c .before .before .before .before .before .before .s .given .0 .1 .0) (sym (c .before .before .before .before .before .before .before .before .read .ensures) ∙ c .before .before .before .before .before .before .s .given .1) .1) in
-    let size : signalSize (c .before .before .before .before .before .before .s .given .0 .1 .0) ≤ 180 = (carried-size (now (c .before .before .before .before .before .before .before .before .before .before .before .args .datagram)) (c .before .before .before .before .before .before .s .given .0 .0) (c .before .before .before .before .before .before .s .given .0 .1 .0) (sym (c .before .before .before .before .before .before .before .before .read .ensures) ∙ c .before .before .before .before .before .before .s .given .1) (c .before .before .before .before .before .before .before .before .before .before .before .pre .1)) in
+    let given = c .before .before .before .before .before .before .before .before .before .before .before .args in
+    let body : take (52 + (c .before .before .before .before .before .before .s .given .0 .1 .0) - 52) (drop 52 (now (given .datagram))) ≡ bodyOf (now (given .datagram)) =
+    ap (λ (m : ℕ). take m (drop 52 (now (given .datagram)))) (add-sub-cancel-left 52 (c .before .before .before .before .before .before .s .given .0 .1 .0)) ∙ sym (body-there (now (given .datagram)) (c .before .before .before .before .before .before .s .given .0 .0) (c .before .before .before .before .before .before .s .given .0 .1 .0) (sym (c .before .before .before .before .before .before .before .before .read .ensures) ∙ c .before .before .before .before .before .before .s .given .1) .1) in
+    let size : signalSize (c .before .before .before .before .before .before .s .given .0 .1 .0) ≤ 180 = (carried-size (now (given .datagram)) (c .before .before .before .before .before .before .s .given .0 .0) (c .before .before .before .before .before .before .s .given .0 .1 .0) (sym (c .before .before .before .before .before .before .before .before .read .ensures) ∙ c .before .before .before .before .before .before .s .given .1) (c .before .before .before .before .before .before .before .before .before .before .before .pre .1)) in
     c .before .before .write-signal .ensures .1 .1
-    ∙ ap (λ (b : List ℕ). left (first (signalWriting (c .before .before .before .before .before .before .s .given .0 .0) (length b) (length (now (c .before .before .before .before .before .before .before .before .before .before .before .args .out))))) (signalBytes (c .before .before .before .before .before .before .s .given .0 .0) b) (now (c .before .before .before .before .before .before .before .before .before .before .before .args .out))) body
-    ∙ writes-read-signal (now (c .before .before .before .before .before .before .before .before .before .before .before .args .datagram)) (c .before .before .before .before .before .before .s .given .0 .0) (c .before .before .before .before .before .before .s .given .0 .1 .0) (now (c .before .before .before .before .before .before .before .before .before .before .before .args .out)) (sym (c .before .before .before .before .before .before .before .before .read .ensures) ∙ c .before .before .before .before .before .before .s .given .1) (omega arith)
+    ∙ ap (λ (b : List ℕ). left (first (signalWriting (c .before .before .before .before .before .before .s .given .0 .0) (length b) (length (now (given .out))))) (signalBytes (c .before .before .before .before .before .before .s .given .0 .0) b) (now (given .out))) body
+    ∙ writes-read-signal (now (given .datagram)) (c .before .before .before .before .before .before .s .given .0 .0) (c .before .before .before .before .before .before .s .given .0 .1 .0) (now (given .out)) (sym (c .before .before .before .before .before .before .before .before .read .ensures) ∙ c .before .before .before .before .before .before .s .given .1) (omega arith)
 
 pub put-pdu-spec : {M : Type 1} → statement M
 put-pdu-spec =

@@ -23,20 +23,26 @@ send-refusal-requires c κs = search needs
 returns : tie.Need-returns
 unfolding sent sentOut
 returns c =
-    let no = ne-eqb (first (sendRules (c .before .before .before .before .args .near) (now (c .before .before .before .before .args .store)) (c .before .before .before .before .args .i) (length (now (c .before .before .before .before .args .out))))) 0 (λ e. c .if1 .taken (c .before .send-refusal .ensures ∙ e)) in
+    let given = c .before .before .before .before .args in
+    let no = ne-eqb (first (sendRules (given .near) (now (given .store)) (given .i) (length (now (given .out))))) 0 (λ e. c .if1 .taken (c .before .send-refusal .ensures ∙ e)) in
     (rw no (ap Refused (c .before .send-refusal .ensures)), (rw no (ap (λ (n : ℕ). n ∷ []) (c .before .send-refusal .ensures)), rw no))
 
 row-start-requires : tie.Need-row-start-requires
 row-start-requires c κs = search needs
 
 u8-at-requires : tie.Need-u8-at-requires
-u8-at-requires c κs = omega (arith, c .row-start .ensures .1, (send-fits (c .before .before .before .before .before .args .near) (now (c .before .before .before .before .before .args .store)) (c .before .before .before .before .before .args .i) (length (now (c .before .before .before .before .before .args .out))) (sym (c .before .before .send-refusal .ensures) ∙ c .before .if1 .left)) .full)
+u8-at-requires c κs =
+    let given = c .before .before .before .before .before .args in
+    let fits = send-fits (given .near) (now (given .store)) (given .i) (length (now (given .out))) (sym (c .before .before .send-refusal .ensures) ∙ c .before .if1 .left) in
+    omega (arith, c .row-start .ensures .1, fits .full)
 
 record-size-requires : tie.Need-record-size-requires
 record-size-requires c κs = search needs
 
 add-end : tie.Need-add-end
-add-end c = omega (arith, c .before .before .row-start .ensures .1, (c .record-size .ensures ∙ ap recordSize (c .before .u8-at .ensures ∙ ap (λ (n : ℕ). num 1 n (now (c .before .before .before .before .before .before .before .args .store))) (c .before .before .row-start .ensures .0))), record-small (rowKind (now (c .before .before .before .before .before .before .before .args .store)) (c .before .before .before .before .before .before .before .args .i)))
+add-end c =
+    let given = c .before .before .before .before .before .before .before .args in
+    omega (arith, c .before .before .row-start .ensures .1, (c .record-size .ensures ∙ ap recordSize (c .before .u8-at .ensures ∙ ap (λ (n : ℕ). num 1 n (now (given .store))) (c .before .before .row-start .ensures .0))), record-small (rowKind (now (given .store)) (given .i)))
 
 sub-copy : tie.Need-sub-copy
 sub-copy c = search needs
@@ -45,10 +51,16 @@ part-copy-start : tie.Need-part-copy-start
 part-copy-start c = search needs
 
 part-copy-end : tie.Need-part-copy-end
-part-copy-end c = omega (arith, c .before .before .before .row-start .ensures .1, (send-fits (c .before .before .before .before .before .before .before .before .args .near) (now (c .before .before .before .before .before .before .before .before .args .store)) (c .before .before .before .before .before .before .before .before .args .i) (length (now (c .before .before .before .before .before .before .before .before .args .out))) (sym (c .before .before .before .before .before .send-refusal .ensures) ∙ c .before .before .before .before .if1 .left)) .full, (c .before .record-size .ensures ∙ ap recordSize (c .before .before .u8-at .ensures ∙ ap (λ (n : ℕ). num 1 n (now (c .before .before .before .before .before .before .before .before .args .store))) (c .before .before .before .row-start .ensures .0))), record-small (rowKind (now (c .before .before .before .before .before .before .before .before .args .store)) (c .before .before .before .before .before .before .before .before .args .i)))
+part-copy-end c =
+    let given = c .before .before .before .before .before .before .before .before .args in
+    let fits = send-fits (given .near) (now (given .store)) (given .i) (length (now (given .out))) (sym (c .before .before .before .before .before .send-refusal .ensures) ∙ c .before .before .before .before .if1 .left) in
+    omega (arith, c .before .before .before .row-start .ensures .1, fits .full, (c .before .record-size .ensures ∙ ap recordSize (c .before .before .u8-at .ensures ∙ ap (λ (n : ℕ). num 1 n (now (given .store))) (c .before .before .before .row-start .ensures .0))), record-small (rowKind (now (given .store)) (given .i)))
 
 copy-requires : tie.Need-copy-requires
-copy-requires c κs = simp (length-take, length-drop) (omega (arith, (c .before .before .record-size .ensures ∙ ap recordSize (c .before .before .before .u8-at .ensures ∙ ap (λ (n : ℕ). num 1 n (now (c .before .before .before .before .before .before .before .before .before .args .store))) (c .before .before .before .before .row-start .ensures .0))), (send-fits (c .before .before .before .before .before .before .before .before .before .args .near) (now (c .before .before .before .before .before .before .before .before .before .args .store)) (c .before .before .before .before .before .before .before .before .before .args .i) (length (now (c .before .before .before .before .before .before .before .before .before .args .out))) (sym (c .before .before .before .before .before .before .send-refusal .ensures) ∙ c .before .before .before .before .before .if1 .left)) .space))
+copy-requires c κs =
+    let given = c .before .before .before .before .before .before .before .before .before .args in
+    let fits = send-fits (given .near) (now (given .store)) (given .i) (length (now (given .out))) (sym (c .before .before .before .before .before .before .send-refusal .ensures) ∙ c .before .before .before .before .before .if1 .left) in
+    simp (length-take, length-drop) (omega (arith, (c .before .before .record-size .ensures ∙ ap recordSize (c .before .before .before .u8-at .ensures ∙ ap (λ (n : ℕ). num 1 n (now (given .store))) (c .before .before .before .before .row-start .ensures .0))), fits .space))
 
 same-length : tie.Need-same-length
 same-length c = search needs
@@ -56,15 +68,17 @@ same-length c = search needs
 returns-2 : tie.Need-returns-2
 unfolding sent sentOut
 returns-2 c =
-    let yes = eq-eqb (first (sendRules (c .before .before .before .before .before .before .before .before .before .before .before .before .args .near) (now (c .before .before .before .before .before .before .before .before .before .before .before .before .args .store)) (c .before .before .before .before .before .before .before .before .before .before .before .before .args .i) (length (now (c .before .before .before .before .before .before .before .before .before .before .before .before .args .out))))) 0 (sym (c .before .before .before .before .before .before .before .before .before .send-refusal .ensures) ∙ c .before .before .before .before .before .before .before .before .if1 .left) in
-    let start : rowStart (c .before .before .before .before .before .before .before .before .before .before .before .before .args .i) ≤ 1344 = omega (arith, c .before .before .before .before .before .before .before .row-start .ensures) in (
-      rw yes (ap Size (c .before .before .before .before .before .record-size .ensures ∙ ap recordSize (c .before .before .before .before .before .before .u8-at .ensures ∙ ap (λ (n : ℕ). num 1 n (now (c .before .before .before .before .before .before .before .before .before .before .before .before .args .store))) (c .before .before .before .before .before .before .before .row-start .ensures .0)))),
+    let given = c .before .before .before .before .before .before .before .before .before .before .before .before .args in
+    let fits = send-fits (given .near) (now (given .store)) (given .i) (length (now (given .out))) (sym (c .before .before .before .before .before .before .before .before .before .send-refusal .ensures) ∙ c .before .before .before .before .before .before .before .before .if1 .left) in
+    let yes = eq-eqb (first (sendRules (given .near) (now (given .store)) (given .i) (length (now (given .out))))) 0 (sym (c .before .before .before .before .before .before .before .before .before .send-refusal .ensures) ∙ c .before .before .before .before .before .before .before .before .if1 .left) in
+    let start : rowStart (given .i) ≤ 1344 = omega (arith, c .before .before .before .before .before .before .before .row-start .ensures) in (
+      rw yes (ap Size (c .before .before .before .before .before .record-size .ensures ∙ ap recordSize (c .before .before .before .before .before .before .u8-at .ensures ∙ ap (λ (n : ℕ). num 1 n (now (given .store))) (c .before .before .before .before .before .before .before .row-start .ensures .0)))),
       (
-        rw yes (ap (λ (n : ℕ). 0 ∷ n ∷ []) (c .before .before .before .before .before .record-size .ensures ∙ ap recordSize (c .before .before .before .before .before .before .u8-at .ensures ∙ ap (λ (n : ℕ). num 1 n (now (c .before .before .before .before .before .before .before .before .before .before .before .before .args .store))) (c .before .before .before .before .before .before .before .row-start .ensures .0)))),
+        rw yes (ap (λ (n : ℕ). 0 ∷ n ∷ []) (c .before .before .before .before .before .record-size .ensures ∙ ap recordSize (c .before .before .before .before .before .before .u8-at .ensures ∙ ap (λ (n : ℕ). num 1 n (now (given .store))) (c .before .before .before .before .before .before .before .row-start .ensures .0)))),
         rw yes
             (c .before .before .copy .ensures
-            ∙ ap₂ (λ (a n : ℕ). splice 0 (take (a + n - a) (drop a (now (c .before .before .before .before .before .before .before .before .before .before .before .before .args .store)))) (now (c .before .before .before .before .before .before .before .before .before .before .before .before .args .out))) (c .before .before .before .before .before .before .before .row-start .ensures .0) (c .before .before .before .before .before .record-size .ensures ∙ ap recordSize (c .before .before .before .before .before .before .u8-at .ensures ∙ ap (λ (n : ℕ). num 1 n (now (c .before .before .before .before .before .before .before .before .before .before .before .before .args .store))) (c .before .before .before .before .before .before .before .row-start .ensures .0)))
-            ∙ row-copied (now (c .before .before .before .before .before .before .before .before .before .before .before .before .args .store)) (now (c .before .before .before .before .before .before .before .before .before .before .before .before .args .out)) (c .before .before .before .before .before .before .before .before .before .before .before .before .args .i) ((send-fits (c .before .before .before .before .before .before .before .before .before .before .before .before .args .near) (now (c .before .before .before .before .before .before .before .before .before .before .before .before .args .store)) (c .before .before .before .before .before .before .before .before .before .before .before .before .args .i) (length (now (c .before .before .before .before .before .before .before .before .before .before .before .before .args .out))) (sym (c .before .before .before .before .before .before .before .before .before .send-refusal .ensures) ∙ c .before .before .before .before .before .before .before .before .if1 .left)) .full) start ((send-fits (c .before .before .before .before .before .before .before .before .before .before .before .before .args .near) (now (c .before .before .before .before .before .before .before .before .before .before .before .before .args .store)) (c .before .before .before .before .before .before .before .before .before .before .before .before .args .i) (length (now (c .before .before .before .before .before .before .before .before .before .before .before .before .args .out))) (sym (c .before .before .before .before .before .before .before .before .before .send-refusal .ensures) ∙ c .before .before .before .before .before .before .before .before .if1 .left)) .space)),
+            ∙ ap₂ (λ (a n : ℕ). splice 0 (take (a + n - a) (drop a (now (given .store)))) (now (given .out))) (c .before .before .before .before .before .before .before .row-start .ensures .0) (c .before .before .before .before .before .record-size .ensures ∙ ap recordSize (c .before .before .before .before .before .before .u8-at .ensures ∙ ap (λ (n : ℕ). num 1 n (now (given .store))) (c .before .before .before .before .before .before .before .row-start .ensures .0)))
+            ∙ row-copied (now (given .store)) (now (given .out)) (given .i) (fits .full) start (fits .space)),
       ),
     )
 

@@ -46,20 +46,22 @@ is-unknown-requires c κs = search needs
 returns-3 : tie.Need-returns-3
 unfolding sendRules
 returns-3 c =
+    let given = c .before .before .before .before .before .before .before .before .before .before .before .args in
     rw (
-      agrees (length (now (c .before .before .before .before .before .before .before .before .before .before .before .args .store))) 1536 (c .before .before .before .before .before .before .before .before .before .if1 .left),
+      agrees (length (now (given .store))) 1536 (c .before .before .before .before .before .before .before .before .before .if1 .left),
       sym (c .before .before .before .before .before .no .ensures ∙ ap not (c .before .before .before .before .before .before .both .ensures)) ∙ c .before .before .before .before .if2 .left,
-      sym (c .before .is-unknown .ensures ∙ ap (λ (k : ℕ). isUnknown (load k)) (c .before .before .u8-at .ensures ∙ ap (λ (n : ℕ). num 1 n (now (c .before .before .before .before .before .before .before .before .before .before .before .args .store))) (c .before .before .before .row-start .ensures .0))) ∙ c .if3 .taken,
+      sym (c .before .is-unknown .ensures ∙ ap (λ (k : ℕ). isUnknown (load k)) (c .before .before .u8-at .ensures ∙ ap (λ (n : ℕ). num 1 n (now (given .store))) (c .before .before .before .row-start .ensures .0))) ∙ c .if3 .taken,
     )
 
 returns-4 : tie.Need-returns-4
 unfolding sendRules
 returns-4 c =
+    let given = c .before .before .before .before .before .before .before .before .before .before .before .before .args in
     rw (
-      agrees (length (now (c .before .before .before .before .before .before .before .before .before .before .before .before .args .store))) 1536 (c .before .before .before .before .before .before .before .before .before .before .if1 .left),
+      agrees (length (now (given .store))) 1536 (c .before .before .before .before .before .before .before .before .before .before .if1 .left),
       sym (c .before .before .before .before .before .before .no .ensures ∙ ap not (c .before .before .before .before .before .before .before .both .ensures)) ∙ c .before .before .before .before .before .if2 .left,
-      sym (c .before .before .is-unknown .ensures ∙ ap (λ (k : ℕ). isUnknown (load k)) (c .before .before .before .u8-at .ensures ∙ ap (λ (n : ℕ). num 1 n (now (c .before .before .before .before .before .before .before .before .before .before .before .before .args .store))) (c .before .before .before .before .row-start .ensures .0))) ∙ c .before .if3 .left,
-      eq-eqb (rowKind (now (c .before .before .before .before .before .before .before .before .before .before .before .before .args .store)) (c .before .before .before .before .before .before .before .before .before .before .before .before .args .i)) 32 (sym (c .before .before .before .u8-at .ensures ∙ ap (λ (n : ℕ). num 1 n (now (c .before .before .before .before .before .before .before .before .before .before .before .before .args .store))) (c .before .before .before .before .row-start .ensures .0)) ∙ c .if4 .taken),
+      sym (c .before .before .is-unknown .ensures ∙ ap (λ (k : ℕ). isUnknown (load k)) (c .before .before .before .u8-at .ensures ∙ ap (λ (n : ℕ). num 1 n (now (given .store))) (c .before .before .before .before .row-start .ensures .0))) ∙ c .before .if3 .left,
+      eq-eqb (rowKind (now (given .store)) (given .i)) 32 (sym (c .before .before .before .u8-at .ensures ∙ ap (λ (n : ℕ). num 1 n (now (given .store))) (c .before .before .before .before .row-start .ensures .0)) ∙ c .if4 .taken),
     )
 
 record-size-requires : tie.Need-record-size-requires
@@ -68,23 +70,25 @@ record-size-requires c κs = search needs
 returns-5 : tie.Need-returns-5
 unfolding sendRules
 returns-5 c =
+    let given = c .before .before .before .before .before .before .before .before .before .before .before .before .before .before .args in
     rw (
-      lt-ltb (c .before .before .before .before .before .before .before .before .before .before .before .before .before .before .args .room) (recordSize (rowKind (now (c .before .before .before .before .before .before .before .before .before .before .before .before .before .before .args .store)) (c .before .before .before .before .before .before .before .before .before .before .before .before .before .before .args .i))) (rw (c .before .record-size .ensures ∙ ap recordSize (c .before .before .before .before .before .u8-at .ensures ∙ ap (λ (n : ℕ). num 1 n (now (c .before .before .before .before .before .before .before .before .before .before .before .before .before .before .args .store))) (c .before .before .before .before .before .before .row-start .ensures .0))) at (c .if5 .taken)),
-      agrees (length (now (c .before .before .before .before .before .before .before .before .before .before .before .before .before .before .args .store))) 1536 (c .before .before .before .before .before .before .before .before .before .before .before .before .if1 .left),
+      lt-ltb (given .room) (recordSize (rowKind (now (given .store)) (given .i))) (rw (c .before .record-size .ensures ∙ ap recordSize (c .before .before .before .before .before .u8-at .ensures ∙ ap (λ (n : ℕ). num 1 n (now (given .store))) (c .before .before .before .before .before .before .row-start .ensures .0))) at (c .if5 .taken)),
+      agrees (length (now (given .store))) 1536 (c .before .before .before .before .before .before .before .before .before .before .before .before .if1 .left),
       sym (c .before .before .before .before .before .before .before .before .no .ensures ∙ ap not (c .before .before .before .before .before .before .before .before .before .both .ensures)) ∙ c .before .before .before .before .before .before .before .if2 .left,
-      sym (c .before .before .before .before .is-unknown .ensures ∙ ap (λ (k : ℕ). isUnknown (load k)) (c .before .before .before .before .before .u8-at .ensures ∙ ap (λ (n : ℕ). num 1 n (now (c .before .before .before .before .before .before .before .before .before .before .before .before .before .before .args .store))) (c .before .before .before .before .before .before .row-start .ensures .0))) ∙ c .before .before .before .if3 .left,
-      ne-eqb (rowKind (now (c .before .before .before .before .before .before .before .before .before .before .before .before .before .before .args .store)) (c .before .before .before .before .before .before .before .before .before .before .before .before .before .before .args .i)) 32 (λ e. c .before .before .if4 .left ((c .before .before .before .before .before .u8-at .ensures ∙ ap (λ (n : ℕ). num 1 n (now (c .before .before .before .before .before .before .before .before .before .before .before .before .before .before .args .store))) (c .before .before .before .before .before .before .row-start .ensures .0)) ∙ e)),
+      sym (c .before .before .before .before .is-unknown .ensures ∙ ap (λ (k : ℕ). isUnknown (load k)) (c .before .before .before .before .before .u8-at .ensures ∙ ap (λ (n : ℕ). num 1 n (now (given .store))) (c .before .before .before .before .before .before .row-start .ensures .0))) ∙ c .before .before .before .if3 .left,
+      ne-eqb (rowKind (now (given .store)) (given .i)) 32 (λ e. c .before .before .if4 .left ((c .before .before .before .before .before .u8-at .ensures ∙ ap (λ (n : ℕ). num 1 n (now (given .store))) (c .before .before .before .before .before .before .row-start .ensures .0)) ∙ e)),
     )
 
 returns-6 : tie.Need-returns-6
 unfolding sendRules
 returns-6 c =
+    let given = c .before .before .before .before .before .before .before .before .before .before .before .before .before .before .args in
     rw (
-      le-ltb (c .before .before .before .before .before .before .before .before .before .before .before .before .before .before .args .room) (recordSize (rowKind (now (c .before .before .before .before .before .before .before .before .before .before .before .before .before .before .args .store)) (c .before .before .before .before .before .before .before .before .before .before .before .before .before .before .args .i))) (rw (c .before .record-size .ensures ∙ ap recordSize (c .before .before .before .before .before .u8-at .ensures ∙ ap (λ (n : ℕ). num 1 n (now (c .before .before .before .before .before .before .before .before .before .before .before .before .before .before .args .store))) (c .before .before .before .before .before .before .row-start .ensures .0))) at (c .if5 .left)),
-      agrees (length (now (c .before .before .before .before .before .before .before .before .before .before .before .before .before .before .args .store))) 1536 (c .before .before .before .before .before .before .before .before .before .before .before .before .if1 .left),
+      le-ltb (given .room) (recordSize (rowKind (now (given .store)) (given .i))) (rw (c .before .record-size .ensures ∙ ap recordSize (c .before .before .before .before .before .u8-at .ensures ∙ ap (λ (n : ℕ). num 1 n (now (given .store))) (c .before .before .before .before .before .before .row-start .ensures .0))) at (c .if5 .left)),
+      agrees (length (now (given .store))) 1536 (c .before .before .before .before .before .before .before .before .before .before .before .before .if1 .left),
       sym (c .before .before .before .before .before .before .before .before .no .ensures ∙ ap not (c .before .before .before .before .before .before .before .before .before .both .ensures)) ∙ c .before .before .before .before .before .before .before .if2 .left,
-      sym (c .before .before .before .before .is-unknown .ensures ∙ ap (λ (k : ℕ). isUnknown (load k)) (c .before .before .before .before .before .u8-at .ensures ∙ ap (λ (n : ℕ). num 1 n (now (c .before .before .before .before .before .before .before .before .before .before .before .before .before .before .args .store))) (c .before .before .before .before .before .before .row-start .ensures .0))) ∙ c .before .before .before .if3 .left,
-      ne-eqb (rowKind (now (c .before .before .before .before .before .before .before .before .before .before .before .before .before .before .args .store)) (c .before .before .before .before .before .before .before .before .before .before .before .before .before .before .args .i)) 32 (λ e. c .before .before .if4 .left ((c .before .before .before .before .before .u8-at .ensures ∙ ap (λ (n : ℕ). num 1 n (now (c .before .before .before .before .before .before .before .before .before .before .before .before .before .before .args .store))) (c .before .before .before .before .before .before .row-start .ensures .0)) ∙ e)),
+      sym (c .before .before .before .before .is-unknown .ensures ∙ ap (λ (k : ℕ). isUnknown (load k)) (c .before .before .before .before .before .u8-at .ensures ∙ ap (λ (n : ℕ). num 1 n (now (given .store))) (c .before .before .before .before .before .before .row-start .ensures .0))) ∙ c .before .before .before .if3 .left,
+      ne-eqb (rowKind (now (given .store)) (given .i)) 32 (λ e. c .before .before .if4 .left ((c .before .before .before .before .before .u8-at .ensures ∙ ap (λ (n : ℕ). num 1 n (now (given .store))) (c .before .before .before .before .before .before .row-start .ensures .0)) ∙ e)),
     )
 
 pub send-refusal-spec : {M : Type 1} → statement M

@@ -26,7 +26,9 @@ returns c =
     )
 
 u32-at-requires : tie.Need-u32-at-requires
-u32-at-requires c κs = reply-head (c .before .before .before .args .near) (now (c .before .before .before .args .received)) (sym (c .before .reply-refusal .ensures) ∙ c .if1 .left)
+u32-at-requires c κs =
+    let given = c .before .before .before .args in
+    reply-head (given .near) (now (given .received)) (sym (c .before .reply-refusal .ensures) ∙ c .if1 .left)
 
 later-requires : tie.Need-later-requires
 later-requires c κs = search needs

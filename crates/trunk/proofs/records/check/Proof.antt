@@ -42,18 +42,20 @@ cast-t11 c = omega (arith, checked-short (now (c .before .before .before .before
 returns-2 : tie.Need-returns-2
 unfolding checked
 returns-2 c =
+    let given = c .before .before .before .before .before .before .args in
     rw (
-      eq-eqb (first (checkRules (now (c .before .before .before .before .before .before .args .received)))) 0 (sym (c .before .before .before .before .check-refusal .ensures) ∙ c .before .before .before .if1 .left),
+      eq-eqb (first (checkRules (now (given .received)))) 0 (sym (c .before .before .before .before .check-refusal .ensures) ∙ c .before .before .before .if1 .left),
       sym (c .before .is-reply .ensures) ∙ c .if2 .taken,
-    ) (ap (λ (n : ℕ). Reply n (length (now (c .before .before .before .before .before .before .args .received)))) (c .before .before .u32-at .ensures))
+    ) (ap (λ (n : ℕ). Reply n (length (now (given .received)))) (c .before .before .u32-at .ensures))
 
 returns-3 : tie.Need-returns-3
 unfolding checked
 returns-3 c =
+    let given = c .before .before .before .before .before .before .before .args in
     rw (
-      eq-eqb (first (checkRules (now (c .before .before .before .before .before .before .before .args .received)))) 0 (sym (c .before .before .before .before .before .check-refusal .ensures) ∙ c .before .before .before .before .if1 .left),
+      eq-eqb (first (checkRules (now (given .received)))) 0 (sym (c .before .before .before .before .before .check-refusal .ensures) ∙ c .before .before .before .before .if1 .left),
       sym (c .before .before .is-reply .ensures) ∙ c .before .if2 .left,
-    ) (ap₂ (λ (k n : ℕ). Pdu k n (length (now (c .before .before .before .before .before .before .before .args .received)))) (c .u8-at .ensures) (c .before .before .before .u32-at .ensures))
+    ) (ap₂ (λ (k n : ℕ). Pdu k n (length (now (given .received)))) (c .u8-at .ensures) (c .before .before .before .u32-at .ensures))
 
 pub check-spec : {M : Type 1} → statement M
 check-spec =

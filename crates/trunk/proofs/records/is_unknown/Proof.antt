@@ -19,9 +19,10 @@ no-requires c κs = search needs
 
 returns : tie.Need-returns
 returns c =
+    let given = c .before .before .before .args in
     c .no .ensures
-    ∙ ap not (c .before .either2 .ensures ∙ ap (λ (b : Bool). leb (c .before .before .before .args .kind) 12 || b) (c .before .before .either .ensures))
-    ∙ sym (unknown-is (c .before .before .before .args .kind) (leb (c .before .before .before .args .kind) 12) (eqb (c .before .before .before .args .kind) 16) (eqb (c .before .before .before .args .kind) 32))
+    ∙ ap not (c .before .either2 .ensures ∙ ap (λ (b : Bool). leb (given .kind) 12 || b) (c .before .before .either .ensures))
+    ∙ sym (unknown-is (given .kind) (leb (given .kind) 12) (eqb (given .kind) 16) (eqb (given .kind) 32))
 
 pub is-unknown-spec : {M : Type 1} → statement M
 is-unknown-spec = tie.close (tie.spec either-requires either-requires-2 no-requires returns)

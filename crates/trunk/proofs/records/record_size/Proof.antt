@@ -38,10 +38,11 @@ returns-2 c =
 
 returns-3 : tie.Need-returns-3
 returns-3 c =
+    let given = c .before .before .args in
     rw (
-      lt-leb (c .before .before .args .kind) 12 (c .before .if1 .left),
-      ne-eqb (c .before .before .args .kind) 16 (c .if2 .left),
-    ) (sym (head-alone (eqb (c .before .before .args .kind) 32)))
+      lt-leb (given .kind) 12 (c .before .if1 .left),
+      ne-eqb (given .kind) 16 (c .if2 .left),
+    ) (sym (head-alone (eqb (given .kind) 32)))
 
 pub record-size-spec : {M : Type 1} → statement M
 record-size-spec =

@@ -52,21 +52,23 @@ u32-at-requires c κs = has-head (now (c .before .before .before .before .before
 returns-4 : tie.Need-returns-4
 unfolding replyRules
 returns-4 c =
+    let given = c .before .before .before .before .before .before .before .before .before .before .before .args in
     rw (
       sym (c .before .before .before .before .before .before .before .before .before .unknown-kind .ensures) ∙ c .before .before .before .before .before .before .before .before .if1 .left,
       sym (c .before .before .before .before .before .before .before .wrong-size .ensures) ∙ c .before .before .before .before .before .before .if2 .left,
       sym (c .before .before .before .before .no .ensures ∙ ap not (c .before .before .before .before .before .is-reply .ensures)) ∙ c .before .before .before .if3 .left,
-      lt-ltb (c .before .before .before .before .before .before .before .before .before .before .before .args .near .accepted) (numberIn (now (c .before .before .before .before .before .before .before .before .before .before .before .args .r))) (rw (c .before .before .u32-at .ensures) at (c .if4 .taken)),
+      lt-ltb (given .near .accepted) (numberIn (now (given .r))) (rw (c .before .before .u32-at .ensures) at (c .if4 .taken)),
     )
 
 returns-5 : tie.Need-returns-5
 unfolding replyRules
 returns-5 c =
+    let given = c .before .before .before .before .before .before .before .before .before .before .before .args in
     rw (
       sym (c .before .before .before .before .before .before .before .before .before .unknown-kind .ensures) ∙ c .before .before .before .before .before .before .before .before .if1 .left,
       sym (c .before .before .before .before .before .before .before .wrong-size .ensures) ∙ c .before .before .before .before .before .before .if2 .left,
       sym (c .before .before .before .before .no .ensures ∙ ap not (c .before .before .before .before .before .is-reply .ensures)) ∙ c .before .before .before .if3 .left,
-      le-ltb (c .before .before .before .before .before .before .before .before .before .before .before .args .near .accepted) (numberIn (now (c .before .before .before .before .before .before .before .before .before .before .before .args .r))) (rw (c .before .before .u32-at .ensures) at (c .if4 .left)),
+      le-ltb (given .near .accepted) (numberIn (now (given .r))) (rw (c .before .before .u32-at .ensures) at (c .if4 .left)),
     )
 
 pub reply-refusal-spec : {M : Type 1} → statement M

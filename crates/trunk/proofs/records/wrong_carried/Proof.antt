@@ -55,13 +55,14 @@ no-requires c κs = search needs
 returns-2 : tie.Need-returns-2
 unfolding wrongCarried
 returns-2 c =
+    let given = c .before .before .before .before .before .before .before .before .before .before .args in
     rw (sym (c .before .before .before .before .before .before .before .before .is-reply .ensures) ∙ c .before .before .before .before .before .before .before .if1 .left)
     (c .no .ensures
     ∙ ap not
     (c .before .both .ensures
     ∙ ap₂ _&&_
-    (c .before .before .before .before .is-written .ensures ∙ ap inWrittenForm (part-rest 5 (now (c .before .before .before .before .before .before .before .before .before .before .args .r))))
-    (ap₂ eqb (c .before .before .kind-of .ensures ∙ ap kindOf (c .before .before .before .read .ensures ∙ ap reading (part-rest 5 (now (c .before .before .before .before .before .before .before .before .before .before .args .r))))) (c .before .before .before .before .before .before .u8-at .ensures))))
+    (c .before .before .before .before .is-written .ensures ∙ ap inWrittenForm (part-rest 5 (now (given .r))))
+    (ap₂ eqb (c .before .before .kind-of .ensures ∙ ap kindOf (c .before .before .before .read .ensures ∙ ap reading (part-rest 5 (now (given .r))))) (c .before .before .before .before .before .before .u8-at .ensures))))
 
 pub wrong-carried-spec : {M : Type 1} → statement M
 wrong-carried-spec =
