@@ -13,7 +13,6 @@ use Rattle.wire.proofs.FirstLaws.{unbroken}
 use Rattle.trunk.specs.Kinds.{words, transmitter, nothing, unknown, load, loadSize, isUnknown, recordSize}
 use Rattle.trunk.specs.Record.{kindIn, unknownKind, wrongSize, checkRules}
 use Rattle.trunk.specs.Near.{replyRules}
-use Rattle.trunk.specs.Far.{arrivalRules}
 use Rattle.trunk.specs.declared.Near.{Near}
 
 -- the table lacks a kind that none of its tests takes
@@ -59,7 +58,3 @@ checked-head r e = has-head r (unbroken 1 (checkRules r) refl e)
 pub reply-head : (near : Near) (r : List ℕ) → first (replyRules near r) ≡ 0 → 5 ≤ length r
 unfolding replyRules
 reply-head near r e = has-head r (unbroken 1 (replyRules near r) refl e)
-
-pub arrival-head : (r : List ℕ) (replyRoom room : ℕ) → first (arrivalRules r replyRoom room) ≡ 0 → 5 ≤ length r
-unfolding arrivalRules
-arrival-head r replyRoom room e = has-head r (unbroken 1 (arrivalRules r replyRoom room) refl e)

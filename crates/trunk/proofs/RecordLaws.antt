@@ -28,7 +28,6 @@ use Rattle.pdu.proofs.WrittenForm.{written-form, written-form-exactly, written-
 use Rattle.trunk.specs.Kinds.{load, loadSize, isUnknown, recordSize, headSize, transmitterKind, replyKind, noKind, kindOf}
 use Rattle.trunk.specs.Record.{headTable, recordOf, replyOf, kindIn, numberIn, carriedIn, lastNumber, unknownKind, wrongSize, isReply, lastOfAll, wrongCarried}
 use Rattle.trunk.specs.Near.{rowSize}
-use Rattle.trunk.specs.Far.{leastOutput}
 
 -- ---- kinds
 
@@ -39,7 +38,6 @@ pub record PduKind (kind : ℕ) : Type 0 where
   pub known : isUnknown (load kind) ≡ false
   pub no-reply : kind ≢ replyKind
   -- a PDU of this kind fits the least output, and its record a row
-  pub fits-output : loadSize (load kind) ≤ leastOutput
   pub fits-row : recordSize kind ≤ rowSize
 
 transmitter-kind : PduKind transmitterKind
@@ -49,7 +47,6 @@ transmitter-kind =
       byte = omega arith;
       known = refl;
       no-reply = λ e. omega arith;
-      fits-output = omega arith;
       fits-row = omega arith;
     }
 
@@ -60,7 +57,6 @@ words-kind n h =
       byte = omega arith;
       known = rw (le-leb n mostWords h);
       no-reply = λ e. omega arith;
-      fits-output = rw (le-leb n mostWords h) (omega arith);
       fits-row = rw (le-leb n mostWords h) (omega arith);
     }
 
@@ -121,12 +117,6 @@ pub carried-length : (pdu : List ℕ) → Carried pdu → length pdu ≡ loadSiz
 carried-length pdu c =
     let w = written-form-exactly pdu (c .bytes) .0 (c .form) in
     ap length (sym (w .1)) ∙ written-form pdu (c .bytes) (w .0) .size ∙ sym (carried-kind pdu (c .kind) .size)
-
--- the same of the written form of a datagram that is carried
-pub form-length : (d : List ℕ) → Bytes d → kindOf (reading d) ≢ noKind → length (writtenForm d) ≡ loadSize (load (kindOf (reading d)))
-form-length d b h =
-    let c = carried-form d b h in
-    carried-length (writtenForm d) (c .0) ∙ ap (λ (r : Reading). loadSize (load (kindOf r))) (c .1)
 
 -- ---- a record's parts read back
 
