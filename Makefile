@@ -5,6 +5,7 @@
 ARCHIVE ?= target/staticlib/libhost.a
 LISTER ?= target/bin/lister
 REPLAY ?= target/bin/replay
+BENCH ?= target/bin/bench
 
 CC := gcc
 CFLAGS := -std=c11 -O2 -Wall -Wextra -Werror
@@ -18,24 +19,25 @@ LINKED := target/linked-archive
 
 # What the archive and the programs are made from; must-fail edits are tried on copies.
 CRATE_FILES := $(shell find crates -type f -not -path '*/must-fail/*')
-PROGRAMS := target/bin/lister target/bin/replay
+PROGRAMS := target/bin/lister target/bin/replay target/bin/bench
 
 MAKEFLAGS += --no-print-directory
 
 .PHONY: help run test bench clean archive programs runs host-tests FORCE
-.PHONY: compare compare-records compare-lister compare-replay
+.PHONY: compare compare-records compare-lister compare-replay compare-jobs
 .DELETE_ON_ERROR:
 
 help:
 	@echo 'make run              an example C host, and a sample exercise over the trunk'
 	@echo 'make test             every proof, test and comparison; ends with the counts'
-	@echo 'make bench            time the archive and the second program on the same datagrams'
+	@echo 'make bench            time the archive and the bench program against the second program'
 	@echo 'make runs             the stored runs of the programs alone'
 	@echo 'make host-tests       the C tests of the archive alone'
 	@echo 'make compare          the archive and the second program on datagrams'
 	@echo 'make compare-records  the archive and the second program on trunk records'
 	@echo 'make compare-lister   the lister and the second program on streams of records'
 	@echo 'make compare-replay   both ends and the second program on scripts of calls'
+	@echo 'make compare-jobs     the bench program and the second program on small jobs'
 	@echo 'make clean            remove all that was built'
 
 run: $(EXAMPLE) $(SECOND) $(REPLAY)
@@ -48,15 +50,15 @@ run: $(EXAMPLE) $(SECOND) $(REPLAY)
 test:
 	@scripts/test.sh
 
-bench: $(SECOND)
-	@$(SECOND) bench
+bench: $(SECOND) $(BENCH)
+	@$(SECOND) bench --bench $(BENCH)
 
 clean:
 	rm -rf target
 
 archive: $(ARCHIVE)
 
-programs: $(LISTER) $(REPLAY)
+programs: $(LISTER) $(REPLAY) $(BENCH)
 
 runs: $(PROGRAMS)
 	@scripts/runs.sh
@@ -76,12 +78,15 @@ compare-lister: $(SECOND) $(LISTER)
 compare-replay: $(SECOND) $(REPLAY)
 	@$(SECOND) compare-replay --replay $(REPLAY)
 
+compare-jobs: $(SECOND) $(BENCH)
+	@$(SECOND) compare-jobs --bench $(BENCH)
+
 target/staticlib/libhost.a: crates.txt $(CRATE_FILES)
 	rt staticlib host
 
 # rt leaves a program as it is where no crate has changed.
 $(PROGRAMS) &: crates.txt $(CRATE_FILES)
-	rt check lister replay
+	rt check lister replay bench
 	@touch $(PROGRAMS)
 
 $(EXAMPLE): host/example.c

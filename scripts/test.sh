@@ -40,4 +40,5 @@ counted 'compare' make compare
 counted 'compare-records' make compare-records
 counted 'compare-lister' make compare-lister
 counted 'compare-replay' make compare-replay
+counted 'compare-jobs' make compare-jobs
 echo "$total passed, 0 failed"

@@ -8,6 +8,7 @@ mod check;
 mod compare;
 mod generate;
 mod hex;
+mod jobs;
 mod numbers;
 mod pdu;
 mod random;
@@ -15,6 +16,7 @@ mod sample;
 mod trunk;
 
 use compare::datagrams::DATAGRAMS;
+use compare::jobs::JOBS;
 use compare::lister::LISTER;
 use compare::records::RECORDS;
 use compare::replay::REPLAY;
@@ -27,15 +29,18 @@ const USAGE: &str = "usage:
   second compare-records [--seed S] [--count N]   the archive's answers to N trunk records
   second compare-lister --lister PROGRAM [--seed S] [--count N]   a lister on N streams
   second compare-replay --replay PROGRAM [--seed S] [--count N]   a replay on N calls
+  second compare-jobs --bench PROGRAM             a bench program on a few small jobs
   second compare-lister --lister PROGRAM --input FILE   a lister on one stream
   second compare-replay --replay PROGRAM --input FILE   a replay on one script
+  second compare-jobs --bench PROGRAM --input FILE      a bench program on these jobs
   second one HEX      both answers to one datagram; - is an empty one
   second record HEX   both answers to one record; - is an empty one
   second list         list the trunk records on standard input, as the lister does
   second replay       make the calls on standard input, as replay does
+  second jobs         run the jobs on standard input, as the bench program does
   second exercise     print a sample exercise, a script for replay
   second tell         tell what the output of replay on standard input says
-  second bench        time both on the same datagrams";
+  second bench --bench PROGRAM   time the archive and a bench program against this one";
 
 const DEFAULT_SEED: u64 = 1;
 const BAD_ARGUMENTS: u8 = 2;
@@ -64,14 +69,16 @@ fn run(words: &[&str]) -> Result<ExitCode, String> {
         }
         ["compare-lister", "--lister", program, rest @ ..] => compare_lister(program, rest),
         ["compare-replay", "--replay", program, rest @ ..] => compare_replay(program, rest),
+        ["compare-jobs", "--bench", program, rest @ ..] => compare_jobs(program, rest),
         ["one", text] => Ok(compare::compare_one(&DATAGRAMS, &bytes(text)?)),
         ["record", text] => Ok(compare::compare_one(&RECORDS, &bytes(text)?)),
         ["list"] => print(trunk::lister::list(&input()?)),
         ["replay"] => print(trunk::replay::run(&input()?)),
+        ["jobs"] => print(jobs::run(&input()?)),
         ["exercise"] => print(sample::exercise::script()),
         ["tell"] => print(sample::tell::tell(&String::from_utf8_lossy(&input()?))?),
-        ["bench"] => {
-            bench::run();
+        ["bench", "--bench", program] => {
+            bench::run(Path::new(program))?;
             Ok(ExitCode::SUCCESS)
         }
         [] => Err("no command".to_string()),
@@ -95,6 +102,15 @@ fn compare_replay(program: &str, rest: &[&str]) -> Result<ExitCode, String> {
     }
     let (seed, count) = settings(rest, compare::replay::DEFAULT_COUNT)?;
     compare::replay::run(program, seed, count)
+}
+
+fn compare_jobs(program: &str, rest: &[&str]) -> Result<ExitCode, String> {
+    let program = Path::new(program);
+    match rest {
+        [] => compare::jobs::run(program),
+        ["--input", file] => compare::compare_input(&JOBS, program, file),
+        _ => Err(format!("cannot read '{}'", rest.join(" "))),
+    }
 }
 
 /// The seed and the count.

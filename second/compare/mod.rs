@@ -4,10 +4,11 @@
 mod answers;
 pub mod datagrams;
 mod demand3;
+pub mod jobs;
 mod known_cases;
 pub mod lister;
 mod outputs;
-mod program;
+pub mod program;
 pub mod records;
 pub mod replay;
 mod self_check;

@@ -51,7 +51,7 @@ impl Outputs {
     /// The error is that the program cannot be run.
     fn of(format: &Format, program: &Path, input: &[u8]) -> Result<Self, String> {
         let own = (format.own)(input);
-        let other = program::run(program, input)?;
+        let other = program::run(program, &[], input)?;
         let lines = own.split('\n').zip(other.split('\n'));
         let same = lines.take_while(|(own, other)| own == other).count();
         let law = format.law.as_ref();

@@ -5,11 +5,12 @@ use std::path::Path;
 use std::process::{Command, Stdio};
 use std::thread;
 
-/// What the program prints with this standard input. Where it does not end well, a last line says
-/// so. The error is that it cannot be run at all.
-pub fn run(program: &Path, input: &[u8]) -> Result<String, String> {
+/// What the program prints with these arguments and this standard input. Where it does not end
+/// well, a last line says so. The error is that it cannot be run at all.
+pub fn run(program: &Path, arguments: &[&str], input: &[u8]) -> Result<String, String> {
     let failed = |error| format!("cannot run '{}': {error}", program.display());
     let mut child = Command::new(program)
+        .args(arguments)
         .stdin(Stdio::piped())
         .stdout(Stdio::piped())
         .spawn()

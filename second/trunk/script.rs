@@ -85,7 +85,7 @@ pub fn parse(input: &[u8]) -> (Vec<Line>, Option<usize>) {
 }
 
 /// Decimal digits alone, for a number that fits.
-fn number<T: std::str::FromStr>(text: &str) -> Option<T> {
+pub fn number<T: std::str::FromStr>(text: &str) -> Option<T> {
     let is_decimal = text.bytes().all(|byte| byte.is_ascii_digit());
     text.parse().ok().filter(|_| is_decimal)
 }
