@@ -43,40 +43,54 @@ fn added(sum: u64, size: usize, answer: u8, count: u32, byte: u8) -> u64 {
     std::num::wrapping_add_u64(sum, byte as u64)
 }
 
-// One cycle; where a call refuses, the ends are as before.
-fn cycle(
-    ends: Ends,
-    datagram: &[u8],
-    store: &mut [u8; 1536],
-    record: &mut [u8; 192],
-    out: &mut [u8; 192],
-    reply: &mut [u8; 5],
-) -> Ends {
-    let near = ends.near;
-    let far = ends.far;
+// The near end after an offer and a send, and the size of the record sent; 0 where one of them refuses.
+struct Launched {
+    near: Near,
+    size: usize,
+}
+
+// Offers a datagram and sends its record.
+fn launch(near: Near, datagram: &[u8], store: &mut [u8; 1536], record: &mut [u8; 192]) -> Launched {
     let offered = near_end::offer(near, store, datagram);
+    let after = offered.near;
     let offer = offered.answer;
     let Offer::Taken(number) = offer else {
-        return ends;
+        return Launched {
+            near: after,
+            size: 0,
+        };
     };
-    let near = offered.near;
-    let Sent::Size(n) = near_end::send(near, store, number, record) else {
-        return ends;
+    let Sent::Size(size) = near_end::send(after, store, number, record) else {
+        return Launched {
+            near: after,
+            size: 0,
+        };
     };
-    let arrived = far_end::arrive(far, lines::first(record, n), reply, out);
-    let arrival = arrived.answer;
+    Launched { near: after, size }
+}
+
+// The near end after a reply, and the sum.
+struct Landed {
+    near: Near,
+    sum: u64,
+}
+
+// Takes the reply to a PDU that was put out.
+fn land(near: Near, sum: u64, arrival: Arrival, reply: &[u8; 5], out: &[u8; 192]) -> Landed {
     let Arrival::Delivered { size, answer } = arrival else {
-        return ends;
+        return Landed { near, sum };
     };
     let replied = near_end::take_reply(near, reply);
+    let after = replied.near;
     let taken = replied.answer;
     let Reply::Acknowledged(count) = taken else {
-        return ends;
+        return Landed { near: after, sum };
     };
-    let near = replied.near;
-    let far = arrived.far;
-    let sum = added(ends.sum, size, answer, count, out[(count % 128) as usize]);
-    Ends { near, far, sum }
+    let byte = out[(count % 128) as usize];
+    Landed {
+        near: after,
+        sum: added(sum, size, answer, count, byte),
+    }
 }
 
 // So many cycles of one datagram.
@@ -89,13 +103,23 @@ fn cycles(
     out: &mut [u8; 192],
     reply: &mut [u8; 5],
 ) -> Ends {
-    let mut ends = start;
-    let mut i = 0;
-    while i < times {
-        ends = cycle(ends, datagram, store, record, out, reply);
-        i += 1;
+    let mut near = start.near;
+    let mut far = start.far;
+    let mut sum = start.sum;
+    let mut left = times;
+    while left > 0 {
+        left -= 1;
+        let launched = launch(near, datagram, store, record);
+        let sent = lines::first(record, launched.size);
+        let arrived = far_end::arrive(far, sent, reply, out);
+        far = arrived.far;
+        let between = launched.near;
+        let arrival = arrived.answer;
+        let landed = land(between, sum, arrival, reply, out);
+        near = landed.near;
+        sum = landed.sum;
     }
-    ends
+    Ends { near, far, sum }
 }
 
 // The kind's datagram in `out`: its size, or 0 where no PDU has this kind.
@@ -119,9 +143,10 @@ pub fn run(kind: u64, times: u64) -> bool {
     let mut record = [0u8; 192];
     let mut out = [0u8; 192];
     let mut reply = [0u8; 5];
-    let ends = cycle(
+    let ends = cycles(
         fresh(),
         lines::first(&first, m),
+        1,
         &mut store,
         &mut record,
         &mut out,

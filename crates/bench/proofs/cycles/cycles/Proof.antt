@@ -1,25 +1,35 @@
--- `bench::cycles::cycles` ends: it counts its turns.
+-- `bench::cycles::cycles` ends: it counts its turns down.
 -- Assumes nothing.
-use Prim.Native.Nat.{_-_}
 use native.Mathlib.Omega.{arith}
 use borrow.Author.Needs.{needs}
 use Rattle.bench.proofs.cycles.cycles.Statement.{statement}
 use Rattle.bench.proofs.cycles.cycles.Tie as tie
 
 abbrev Inv-loop : tie.InvT-loop
-Inv-loop datagram times store₀ record₀ out₀ reply₀ ends₀ i₀ store «record» out reply ends i = Unit {0}
+Inv-loop datagram times store₀ record₀ out₀ reply₀ near₀ far₀ sum₀ left₀ store «record» out reply near far sum left =
+    Unit {0}
 
 abbrev μ-loop : tie.MeasureT-loop
-μ-loop datagram times store₀ record₀ out₀ reply₀ ends₀ i₀ store «record» out reply ends i = times - i
+μ-loop datagram times store₀ record₀ out₀ reply₀ near₀ far₀ sum₀ left₀ store «record» out reply near far sum left =
+    left
 
 loop-holds : tie.Need-loop-holds Inv-loop μ-loop
 loop-holds c = tt
 
-cycle-requires : tie.Need-cycle-requires Inv-loop μ-loop
-cycle-requires c κs = search needs
+sub-left : tie.Need-sub-left Inv-loop μ-loop
+sub-left c = omega arith
 
-add-i : tie.Need-add-i Inv-loop μ-loop
-add-i c = omega arith
+launch-requires : tie.Need-launch-requires Inv-loop μ-loop
+launch-requires c κs = search needs
+
+first-requires : tie.Need-first-requires Inv-loop μ-loop
+first-requires c κs = search needs
+
+arrive-requires : tie.Need-arrive-requires Inv-loop μ-loop
+arrive-requires c κs = search needs
+
+land-requires : tie.Need-land-requires Inv-loop μ-loop
+land-requires c κs = search needs
 
 loop-less : tie.Need-loop-less Inv-loop μ-loop
 loop-less c = omega arith
@@ -33,4 +43,15 @@ returns c = search needs
 pub cycles-spec : {M : Type 1} → statement M
 cycles-spec =
     tie.close
-    (tie.spec Inv-loop μ-loop loop-holds cycle-requires add-i loop-less loop-again returns)
+    (tie.spec
+    Inv-loop
+    μ-loop
+    loop-holds
+    sub-left
+    launch-requires
+    first-requires
+    arrive-requires
+    land-requires
+    loop-less
+    loop-again
+    returns)
