@@ -9,9 +9,9 @@ use std::path::Path;
 use std::time::Instant;
 
 /// Rounds of the two programs alternate, as for the calls; each takes longer.
-const ROUNDS: usize = 9;
+const ROUNDS: usize = 11;
 const CYCLES: u64 = 500_000;
-const STEPS: u64 = 1_000_000;
+const STEPS: u64 = 3_000_000;
 const UNITS: [usize; 3] = [0, 8, 16];
 
 /// An offer, a send, an arrival and the reply.

@@ -14,11 +14,13 @@ pub struct Rounds {
 }
 
 impl Rounds {
-    /// Prints a row with the medians.
+    /// Prints a row with the medians. The ratio is that of the rounds' own ratios: what slows the
+    /// machine for some rounds leaves those alone.
     pub fn print(self, what: &str) {
+        let pairs = self.second.iter().zip(&self.proved);
+        let ratio = median(pairs.map(|(second, proved)| second / proved).collect());
         let proved = median(self.proved);
         let second = median(self.second);
-        let ratio = second / proved;
         println!("{what:<32}{proved:>9.1}{second:>9.1}{ratio:>8.2}");
     }
 }
