@@ -84,10 +84,12 @@ compare-jobs: $(SECOND) $(BENCH)
 target/staticlib/libhost.a: crates.txt $(CRATE_FILES)
 	rt staticlib host
 
-# rt leaves a program as it is where no crate has changed.
+# rt leaves a program as it is where no crate has changed, and does not make it again if it is
+# gone: so none is deleted where another fails.
+.PRECIOUS: $(PROGRAMS)
 $(PROGRAMS) &: crates.txt $(CRATE_FILES)
 	rt check lister replay bench
-	@touch $(PROGRAMS)
+	@touch -c $(PROGRAMS)
 
 $(EXAMPLE): host/example.c
 $(HOST_TESTS): $(wildcard host/tests/*)
