@@ -67,12 +67,12 @@ fn unacknowledged(near: Near) -> u32
     near.accepted - near.acknowledged
 }
 
-// Writes the PDU of a taken datagram from the start of `out`, as the writer gives it.
-fn put_pdu(out: &mut [u8], datagram: &[u8])
-    requires { ⌜ (187 ≤ length (now out)) × (kindOf (reading (now datagram)) ≡ noKind → ⊥) ⌝ }
+// Writes the PDU of a taken datagram, by what reading answered, from the start of `out`, as the writer gives it.
+fn put_pdu(out: &mut [u8], answer: Reading, datagram: &[u8])
+    requires { ⌜ (187 ≤ length (now out)) × (answer ≡ reading (now datagram)) × (kindOf (reading (now datagram)) ≡ noKind → ⊥) ⌝ }
     ensures { λ _. ⌜ now (out .exit) ≡ splice 0 (writtenForm (now (datagram .entry))) (now (out .entry)) ⌝ }
 {
-    match pdu::read(datagram) {
+    match answer {
         Reading::Refused(_) => {}
         Reading::Transmitter(t) => {
             pdu::write_transmitter(t, out);
@@ -85,13 +85,13 @@ fn put_pdu(out: &mut [u8], datagram: &[u8])
 }
 
 // Writes a record from the start of a row.
-fn put_record(row: &mut [u8], kind: u8, number: u32, datagram: &[u8])
-    requires { ⌜ (192 ≤ length (now row)) × (kindOf (reading (now datagram)) ≡ noKind → ⊥) ⌝ }
+fn put_record(row: &mut [u8], kind: u8, number: u32, answer: Reading, datagram: &[u8])
+    requires { ⌜ (192 ≤ length (now row)) × (answer ≡ reading (now datagram)) × (kindOf (reading (now datagram)) ≡ noKind → ⊥) ⌝ }
     ensures { λ _. ⌜ now (row .exit) ≡ splice 0 (recordOf kind number (writtenForm (now (datagram .entry)))) (now (row .entry)) ⌝ }
 {
     wire::put_u8(row, 0, kind);
     wire::put_u32(row, 1, number);
-    put_pdu(&mut row[records::HEAD_SIZE..], datagram);
+    put_pdu(&mut row[records::HEAD_SIZE..], answer, datagram);
 }
 
 // Offers a datagram: takes its PDU under the next number and writes its record into that number's row of the store.
@@ -111,7 +111,13 @@ pub fn offer(near: Near, store: &mut [u8], datagram: &[u8]) -> Offered
     let number = near.accepted;
     let start = row_start(number);
     let kind = records::kind_of(answer) as u8;
-    put_record(&mut store[start..start + ROW_SIZE], kind, number, datagram);
+    put_record(
+        &mut store[start..start + ROW_SIZE],
+        kind,
+        number,
+        answer,
+        datagram,
+    );
     Offered {
         near: Near {
             accepted: number + 1,

@@ -67,7 +67,7 @@ put-record-requires : tie.Need-put-record-requires
 put-record-requires c κs =
     let given = c .before .before .before .before .before .before .before .before .args in
     let fits = offer-fits (given .near) (length (now (given .store))) (reading (now (given .datagram))) (sym (c .before .before .before .before .offer-refusal .ensures ∙ ap (λ (a : Reading). first (offerRulesOf (given .near) (length (now (given .store))) a)) (c .before .before .before .before .before .read .ensures)) ∙ c .before .before .before .if1 .left) in
-    (simp (length-take, length-drop) (omega (arith, c .before .before .row-start .ensures .1, fits .store)), fits .carried)
+    (simp (length-take, length-drop) (omega (arith, c .before .before .row-start .ensures .1, fits .store)), c .before .before .before .before .before .read .ensures, fits .carried)
 
 add-t18 : tie.Need-add-t18
 add-t18 c =

@@ -1,4 +1,4 @@
--- `put_pdu` meets its contract: a datagram that the trunk carries is written back as its written form (`writes-read-transmitter`,
+-- `put_pdu` meets its contract: what was read of a datagram that the trunk carries is written as its written form (`writes-read-transmitter`,
 -- `writes-read-signal`); one that is refused has no kind.
 -- Assumes nothing.
 use Prim.Native.Nat.{ℕ, _+_, _-_, _≤_}
@@ -19,20 +19,17 @@ use Rattle.trunk.proofs.WriteLaws.{carried-size, writes-read-transmitte
 use Rattle.trunk.proofs.near_end.put_pdu.Statement.{statement}
 use Rattle.trunk.proofs.near_end.put_pdu.Tie as tie
 
-read-requires : tie.Need-read-requires
-read-requires c κs = search needs
-
 enum-told : tie.Need-enum-told
 enum-told c = search needs
 
-enum-known-t : tie.Need-enum-known-t
-enum-known-t c = search needs
+enum-known-answer : tie.Need-enum-known-answer
+enum-known-answer c = search needs
 
 write-transmitter-requires : tie.Need-write-transmitter-requires
 write-transmitter-requires c κs = search needs
 
-enum-known-s : tie.Need-enum-known-s
-enum-known-s c = search needs
+enum-known-answer-2 : tie.Need-enum-known-answer-2
+enum-known-answer-2 c = search needs
 
 cast-end : tie.Need-cast-end
 cast-end c = search needs
@@ -47,44 +44,52 @@ part-write-signal-start : tie.Need-part-write-signal-start
 part-write-signal-start c = search needs
 
 part-write-signal-end : tie.Need-part-write-signal-end
-part-write-signal-end c = omega (arith, body-there (now (c .before .before .before .before .before .before .args .datagram)) (c .before .s .given .0 .0) (c .before .s .given .0 .1 .0) (sym (c .before .before .before .read .ensures) ∙ c .before .s .given .1) .0)
+part-write-signal-end c =
+    let given = c .before .before .before .before .before .args in
+    let signal = c .before .answer2 .given .0 .0 in
+    let size = c .before .answer2 .given .0 .1 .0 in
+    let read = sym (c .before .before .before .before .before .pre .1) ∙ c .before .answer2 .given .1 in
+    omega (arith, body-there (now (given .datagram)) signal size read .0)
 
 write-signal-requires : tie.Need-write-signal-requires
 write-signal-requires c κs = search needs
 
 returns : tie.Need-returns
-returns c = elim (c .before .before .before .before .before .pre .1 (ap kindOf (sym (c .before .before .read .ensures) ∙ c .enum-told .given .1))) [ ]
+returns c = elim (c .before .before .before .before .pre .2 (ap kindOf (sym (c .before .before .before .before .pre .1) ∙ c .enum-told .given .1))) [ ]
 
 same-length : tie.Need-same-length
 same-length c = search needs
 
 returns-2 : tie.Need-returns-2
 returns-2 c =
-    let given = c .before .before .before .before .before .before .before .before .before .before .args in
-    c .before .before .write-transmitter .ensures .1 .1 ∙ writes-read-transmitter (now (given .datagram)) (c .before .before .before .before .before .t .given .0 .0) (now (given .out)) (sym (c .before .before .before .before .before .before .before .read .ensures) ∙ c .before .before .before .before .before .t .given .1) (omega arith)
+    let given = c .before .before .before .before .before .before .before .before .before .args in
+    let read = sym (c .before .before .before .before .before .before .before .before .before .pre .1) ∙ c .before .before .before .before .before .answer .given .1 in
+    c .before .before .write-transmitter .ensures .1 .1 ∙ writes-read-transmitter (now (given .datagram)) (c .before .before .before .before .before .answer .given .0 .0) (now (given .out)) read (omega arith)
 
 same-length-2 : tie.Need-same-length-2
 same-length-2 c = search needs
 
 returns-3 : tie.Need-returns-3
 returns-3 c =
-    let given = c .before .before .before .before .before .before .before .before .before .before .before .args in
-    let body : take (52 + (c .before .before .before .before .before .before .s .given .0 .1 .0) - 52) (drop 52 (now (given .datagram))) ≡ bodyOf (now (given .datagram)) =
-    ap (λ (m : ℕ). take m (drop 52 (now (given .datagram)))) (add-sub-cancel-left 52 (c .before .before .before .before .before .before .s .given .0 .1 .0)) ∙ sym (body-there (now (given .datagram)) (c .before .before .before .before .before .before .s .given .0 .0) (c .before .before .before .before .before .before .s .given .0 .1 .0) (sym (c .before .before .before .before .before .before .before .before .read .ensures) ∙ c .before .before .before .before .before .before .s .given .1) .1) in
-    let size : signalSize (c .before .before .before .before .before .before .s .given .0 .1 .0) ≤ 180 = (carried-size (now (given .datagram)) (c .before .before .before .before .before .before .s .given .0 .0) (c .before .before .before .before .before .before .s .given .0 .1 .0) (sym (c .before .before .before .before .before .before .before .before .read .ensures) ∙ c .before .before .before .before .before .before .s .given .1) (c .before .before .before .before .before .before .before .before .before .before .before .pre .1)) in
+    let given = c .before .before .before .before .before .before .before .before .before .before .args in
+    let signal = c .before .before .before .before .before .before .answer2 .given .0 .0 in
+    let size = c .before .before .before .before .before .before .answer2 .given .0 .1 .0 in
+    let read = sym (c .before .before .before .before .before .before .before .before .before .before .pre .1) ∙ c .before .before .before .before .before .before .answer2 .given .1 in
+    let body : take (52 + size - 52) (drop 52 (now (given .datagram))) ≡ bodyOf (now (given .datagram)) =
+    ap (λ (m : ℕ). take m (drop 52 (now (given .datagram)))) (add-sub-cancel-left 52 size) ∙ sym (body-there (now (given .datagram)) signal size read .1) in
+    let small : signalSize size ≤ 180 = carried-size (now (given .datagram)) signal size read (c .before .before .before .before .before .before .before .before .before .before .pre .2) in
     c .before .before .write-signal .ensures .1 .1
-    ∙ ap (λ (b : List ℕ). left (first (signalWriting (c .before .before .before .before .before .before .s .given .0 .0) (length b) (length (now (given .out))))) (signalBytes (c .before .before .before .before .before .before .s .given .0 .0) b) (now (given .out))) body
-    ∙ writes-read-signal (now (given .datagram)) (c .before .before .before .before .before .before .s .given .0 .0) (c .before .before .before .before .before .before .s .given .0 .1 .0) (now (given .out)) (sym (c .before .before .before .before .before .before .before .before .read .ensures) ∙ c .before .before .before .before .before .before .s .given .1) (omega arith)
+    ∙ ap (λ (b : List ℕ). left (first (signalWriting signal (length b) (length (now (given .out))))) (signalBytes signal b) (now (given .out))) body
+    ∙ writes-read-signal (now (given .datagram)) signal size (now (given .out)) read (omega arith)
 
 pub put-pdu-spec : {M : Type 1} → statement M
 put-pdu-spec =
     tie.close
     (tie.spec
-    read-requires
     enum-told
-    enum-known-t
+    enum-known-answer
     write-transmitter-requires
-    enum-known-s
+    enum-known-answer-2
     cast-end
     add-end
     sub-write-signal

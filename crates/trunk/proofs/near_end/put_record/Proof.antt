@@ -40,7 +40,7 @@ returns c =
     let given = c .before .before .before .before .before .before .before .before .before .before .before .before .before .before .args in
     let long : length (c .before .before .before .before .before .before .put-u32 .last .0) ≡ length (now (given .row)) = c .before .before .before .before .before .before .put-u32 .kept .0 ∙ c .before .before .before .before .before .before .before .before .before .before .put-u8 .kept .0 in
     ap (λ (l : List ℕ). take 5 (c .before .before .before .before .before .before .put-u32 .last .0) ++ (l ++ drop (length (c .before .before .before .before .before .before .put-u32 .last .0) - 5) (drop 5 (c .before .before .before .before .before .before .put-u32 .last .0)))) (c .before .before .put-pdu .ensures)
-    ∙ part-splice 5 (length (c .before .before .before .before .before .before .put-u32 .last .0) - 5) (writtenForm (now (given .datagram))) (c .before .before .before .before .before .before .put-u32 .last .0) (omega arith) (omega (arith, carried-short (now (given .datagram)) (c .before .before .before .before .before .before .before .before .before .before .before .before .before .before .pre .1)))
+    ∙ part-splice 5 (length (c .before .before .before .before .before .before .put-u32 .last .0) - 5) (writtenForm (now (given .datagram))) (c .before .before .before .before .before .before .put-u32 .last .0) (omega arith) (omega (arith, carried-short (now (given .datagram)) (c .before .before .before .before .before .before .before .before .before .before .before .before .before .before .pre .2)))
     ∙ ap (splice 5 (writtenForm (now (given .datagram)))) (c .before .before .before .before .before .before .put-u32 .ensures ∙ ap (splice 1 (big 4 (given .number))) (c .before .before .before .before .before .before .before .before .before .before .put-u8 .ensures))
     ∙ record-splice (given .kind) (given .number) (writtenForm (now (given .datagram))) (now (given .row))
 
