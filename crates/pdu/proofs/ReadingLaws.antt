@@ -1,8 +1,8 @@
 -- What a rule that is not broken says of a datagram's length, and small facts on tests that the readers' proofs share.
 -- Assumes nothing.
 use Prim.Native.Nat.{ℕ, _+_, _-_, _/_, _%_, _≤_}
-use mathlib.Core.Path.{_≡_, refl, ap}
-use mathlib.Core.Bool.{Bool, true, false, not, _||_, true≢false}
+use mathlib.Core.Path.{_≡_, refl, ap, _∙_}
+use mathlib.Core.Bool.{Bool, true, false, cond, not, _||_, true≢false}
 use mathlib.Core.List.{List}
 use lib.ListN.{length, take, drop, length-take, length-drop}
 use lib.Seq.{take-all}
@@ -11,9 +11,12 @@ use native.Mathlib.Omega.{arith}
 use borrow.Author.Tests.{eqb-true, eq-eqb, ne-eqb, ltb-false, not-false}
 use Rattle.wire.specs.Bytes.{num}
 use Rattle.wire.specs.First.{first}
-use Rattle.wire.proofs.FirstLaws.{none-behind, unbroken}
+use Rattle.wire.proofs.TableLaws.{both-true}
+use Rattle.wire.proofs.FirstLaws.{none-behind, unbroken, first-next}
 use Rattle.pdu.specs.Records.{filled}
 use Rattle.pdu.specs.Reading.{wrongLength, wrongBits, transmitterRules, signalRules, readingRules, refusal}
+use Rattle.pdu.specs.Writing.{inWrittenForm}
+use Rattle.pdu.proofs.RuleLaws.{none-before}
 
 -- both halves of a disjunction that is false
 pub neither : (a b : Bool) → (a || b) ≡ false → (a ≡ false) × (b ≡ false)
@@ -45,9 +48,20 @@ part-length start n d h = simp (length-take, length-drop) (omega arith)
 
 -- ---- what a taken datagram's length is
 
-pub taken-long : (d : List ℕ) → refusal d ≡ 0 → 12 ≤ length d
+-- where 1, 2 and 3 are not given, the slice has a header's start, and the PDU type says which rules decide
+pub start-long : (d : List ℕ) → first (take 3 (readingRules d)) ≡ 0 → 12 ≤ length d
+unfolding readingRules
+start-long d e = ltb-false (length d) 12 (unbroken 0 (take 3 (readingRules d)) refl e)
+
+pub start-next : (d : List ℕ) → first (take 3 (readingRules d)) ≡ 0 → (b : Bool) → eqb (num 1 2 d) 25 ≡ b → refusal d ≡ first (cond b (transmitterRules d) (signalRules d))
 unfolding refusal readingRules
-taken-long d e = ltb-false (length d) 12 (unbroken 0 (readingRules d) refl e)
+start-next d e b type =
+    first-next (take 3 (readingRules d)) (drop 3 (readingRules d)) refl e
+    ∙ ap (λ (x : Bool). first (cond x (transmitterRules d) (signalRules d))) type
+
+pub taken-long : (d : List ℕ) → refusal d ≡ 0 → 12 ≤ length d
+unfolding refusal
+taken-long d e = start-long d (none-before 3 (readingRules d) e)
 
 pub taken-transmitter : (d : List ℕ) → refusal d ≡ 0 → eqb (num 1 2 d) 25 ≡ true → first (transmitterRules d) ≡ 0
 unfolding refusal readingRules
@@ -57,20 +71,36 @@ pub taken-signal : (d : List ℕ) → refusal d ≡ 0 → eqb (num 1 2 d) 25 ≡
 unfolding refusal readingRules
 taken-signal d e type = rw type at (none-behind 3 (readingRules d) refl e)
 
-pub transmitter-size : (d : List ℕ) → first (transmitterRules d) ≡ 0 → length d ≡ 112
+-- a Transmitter whose layout is right has its full size
+pub transmitter-laid : (d : List ℕ) → first (take 5 (transmitterRules d)) ≡ 0 → length d ≡ 112
 unfolding transmitterRules
-transmitter-size d e = eqb-true (length d) 112 (not-false (eqb (length d) 112) (unbroken 4 (transmitterRules d) refl e))
+transmitter-laid d e =
+    eqb-true (length d) 112 (not-false (eqb (length d) 112) (unbroken 4 (take 5 (transmitterRules d)) refl e))
+
+pub transmitter-size : (d : List ℕ) → first (transmitterRules d) ≡ 0 → length d ≡ 112
+transmitter-size d e = transmitter-laid d (none-before 5 (transmitterRules d) e)
+
+-- a Signal whose layout is right has its network header, and the length that its data gives
+pub signal-laid : (d : List ℕ) → first (take 5 (signalRules d)) ≡ 0 → (160 ≤ num 2 28 d) × (length d ≡ filled (32 + num 2 28 d / 8))
+unfolding signalRules
+signal-laid d e =
+    let rules = take 5 (signalRules d) in
+    let size : ℕ = filled (32 + num 2 28 d / 8) in (
+      right-bits (num 2 28 d) (unbroken 3 rules refl e),
+      eqb-true (length d) size (not-false (eqb (length d) size) (unbroken 4 rules refl e)),
+    )
 
 pub signal-bits : (d : List ℕ) → first (signalRules d) ≡ 0 → 160 ≤ num 2 28 d
-unfolding signalRules
-signal-bits d e = right-bits (num 2 28 d) (unbroken 3 (signalRules d) refl e)
+signal-bits d e = signal-laid d (none-before 5 (signalRules d) e) .0
 
 pub signal-length : (d : List ℕ) → first (signalRules d) ≡ 0 → length d ≡ filled (32 + num 2 28 d / 8)
-unfolding signalRules
-signal-length d e =
-    let size : ℕ = filled (32 + num 2 28 d / 8) in
-    eqb-true (length d) size (not-false (eqb (length d) size) (unbroken 4 (signalRules d) refl e))
+signal-length d e = signal-laid d (none-before 5 (signalRules d) e) .1
 
 -- a part that runs to the end
 pub part-rest : (start : ℕ) (d : List ℕ) → take (length d - start) (drop start d) ≡ drop start d
 part-rest start d = take-all (length d - start) (drop start d) (simp length-drop (omega arith))
+
+-- a datagram in written form is taken
+pub written-taken : (d : List ℕ) → inWrittenForm d ≡ true → refusal d ≡ 0
+unfolding inWrittenForm
+written-taken d e = eqb-true (refusal d) 0 (both-true (eqb (refusal d) 0) _ e .0)

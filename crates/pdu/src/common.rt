@@ -3,13 +3,14 @@ ghost use mathlib.Core.Path.{_≡_};
 ghost use Prim.Native.Nat.{_≤_};
 ghost use lib.ListN.{length, take, drop};
 ghost use Rattle.wire.specs.Bytes.{splice};
+ghost use Rattle.wire.specs.First.{first};
 ghost use Rattle.wire.specs.Table.{fill};
 ghost use Rattle.pdu.specs.Tables.{common};
 ghost use Rattle.pdu.specs.Records.{headerOf, headerValues};
-ghost use Rattle.pdu.specs.Reading.{wrongVersion, wrongType, wrongLength};
+ghost use Rattle.pdu.specs.Reading.{wrongVersion, wrongType, wrongLength, readingRules};
 use crate::Header;
 
-pub(crate) const SHORTEST: usize = 12;
+const SHORTEST: usize = 12;
 
 const OLDER_VERSION: u8 = 5;
 
@@ -29,13 +30,29 @@ pub(crate) fn wrong_version(v: u8) -> bool
 }
 
 // Whether refusal 3 applies.
-pub(crate) fn wrong_type(d: &[u8]) -> bool
+fn wrong_type(d: &[u8]) -> bool
     requires { ⌜ 12 ≤ length (now d) ⌝ }
     ensures { λ r. ⌜ r ≡ wrongType (now (d .entry)) ⌝ }
 {
     let pdu_type = wire::u8_at(d, 2);
     let known = wire::either(pdu_type == TRANSMITTER_TYPE, pdu_type == SIGNAL_TYPE);
     wire::no(wire::both(known, wire::u8_at(d, 3) == RADIO_FAMILY))
+}
+
+// The number of the first broken rule of 1, 2 and 3, or 0.
+pub(crate) fn start_refusal(d: &[u8]) -> u8
+    ensures { λ r. ⌜ r ≡ first (take 3 (readingRules (now (d .entry)))) ⌝ }
+{
+    if d.len() < SHORTEST {
+        return 1;
+    }
+    if wrong_version(wire::u8_at(d, 0)) {
+        return 2;
+    }
+    if wrong_type(d) {
+        return 3;
+    }
+    0
 }
 
 // Whether refusal 4 applies, for a PDU whose length field is at least `least`.

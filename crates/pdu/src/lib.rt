@@ -2,12 +2,14 @@
 // Every public call takes every input and is promised down to each bit of its answer and of the memory lent to it.
 
 ghost use mathlib.Core.Path.{_≡_};
+ghost use mathlib.Core.Bool.{cond};
 ghost use mathlib.Core.List.{[], _∷_};
 ghost use lib.ListN.{length};
 ghost use Rattle.wire.specs.First.{first, told};
 ghost use Rattle.pdu.specs.Numbers.{transmitterSize};
 ghost use Rattle.pdu.specs.Records.{signalSize};
-ghost use Rattle.pdu.specs.Reading.{refusal, reading, numberOf, sizeOf};
+ghost use Rattle.pdu.specs.Reading.{refusal, content, reading, numberOf, sizeOf};
+ghost use Rattle.pdu.specs.declared.Reading.the-variants.{Refused};
 ghost use Rattle.pdu.specs.Writing.{transmitterBytes, transmitterWriting, signalBytes, signalWriting, answered, writtenSays, left, inWrittenForm};
 
 mod common;
@@ -119,19 +121,30 @@ pub enum Word {
 pub fn reading_refusal(d: &[u8]) -> u8
     ensures { λ r. ⌜ r ≡ refusal (now (d .entry)) ⌝ }
 {
-    if d.len() < common::SHORTEST {
-        return 1;
-    }
-    if common::wrong_version(wire::u8_at(d, 0)) {
-        return 2;
-    }
-    if common::wrong_type(d) {
-        return 3;
+    let n = common::start_refusal(d);
+    if n != 0 {
+        return n;
     }
     if wire::u8_at(d, 2) == common::TRANSMITTER_TYPE {
         transmitter_reader::refusal(d)
     } else {
         signal_reader::refusal(d)
+    }
+}
+
+// What a taken datagram holds.
+fn content(d: &[u8]) -> Reading
+    requires { ⌜ refusal (now d) ≡ 0 ⌝ }
+    ensures { λ r. ⌜ r ≡ content (now (d .entry)) ⌝ }
+{
+    if wire::u8_at(d, 2) == common::TRANSMITTER_TYPE {
+        Reading::Transmitter(transmitter_reader::fields(d))
+    } else {
+        let bits = wire::u16_at(d, 28);
+        Reading::Signal(
+            signal_reader::fields(d),
+            bits / 8 - signal_reader::NETWORK_BYTES,
+        )
     }
 }
 
@@ -143,15 +156,17 @@ pub fn read(datagram: &[u8]) -> Reading
     if n != 0 {
         return Reading::Refused(n);
     }
-    if wire::u8_at(datagram, 2) == common::TRANSMITTER_TYPE {
-        Reading::Transmitter(transmitter_reader::fields(datagram))
-    } else {
-        let bits = wire::u16_at(datagram, 28);
-        Reading::Signal(
-            signal_reader::fields(datagram),
-            bits / 8 - signal_reader::NETWORK_BYTES,
-        )
+    content(datagram)
+}
+
+// Reads a datagram that is in written form, as a trunk record carries it; one that is not is refused by the number 0.
+pub fn read_written(datagram: &[u8]) -> Reading
+    ensures { λ r. ⌜ r ≡ cond (inWrittenForm (now (datagram .entry))) (reading (now (datagram .entry))) (Refused 0) ⌝ }
+{
+    if wire::no(is_written(datagram)) {
+        return Reading::Refused(0);
     }
+    content(datagram)
 }
 
 // Document 01's number of what reading answered: 0 where the datagram is taken.
@@ -208,12 +223,12 @@ pub fn write_signal(s: Signal, body: &[u8], out: &mut [u8]) -> Written
 pub fn is_written(datagram: &[u8]) -> bool
     ensures { λ r. ⌜ r ≡ inWrittenForm (now (datagram .entry)) ⌝ }
 {
-    if reading_refusal(datagram) != 0 {
+    if common::start_refusal(datagram) != 0 {
         return false;
     }
     if wire::u8_at(datagram, 2) == common::TRANSMITTER_TYPE {
-        transmitter_reader::is_blank(datagram)
+        transmitter_reader::is_written(datagram)
     } else {
-        signal_reader::is_blank(datagram)
+        signal_reader::is_written(datagram)
     }
 }

@@ -3,7 +3,8 @@ ghost use mathlib.Core.Path.{_≡_};
 ghost use mathlib.Core.Bool.{_&&_};
 ghost use mathlib.Core.List.{_++_};
 ghost use Prim.Native.Nat.{_+_, _-_, _*_, _/_, _≤_, _<_};
-ghost use lib.ListN.{length, drop};
+ghost use lib.Dec.{eqb};
+ghost use lib.ListN.{length, take, drop};
 ghost use Rattle.wire.specs.Bytes.{num, allZero};
 ghost use Rattle.wire.specs.First.{first};
 ghost use Rattle.wire.specs.Table.{allBlank};
@@ -158,22 +159,23 @@ pub(crate) fn body_refusal(message_type: u8, body: &[u8]) -> u8
 }
 
 // The number of the first broken rule of the network header and of the body, which starts at byte 52, or 0.
-fn inner_refusal(d: &[u8], size: usize) -> u8
-    requires { ⌜ 52 + size ≤ length (now d) ⌝ }
-    ensures { λ r. ⌜ r ≡ first (networkRules (signalOf (now (d .entry)) .network) ++ bodyRules (signalOf (now (d .entry)) .network .«message_type») size) ⌝ }
+fn inner_refusal(d: &[u8]) -> u8
+    requires { ⌜ (52 + bodySize (now d) ≤ length (now d)) × (160 ≤ num 2 28 (now d)) ⌝ }
+    ensures { λ r. ⌜ r ≡ first (networkRules (signalOf (now (d .entry)) .network) ++ bodyRules (signalOf (now (d .entry)) .network .«message_type») (bodySize (now (d .entry)))) ⌝ }
 {
     let network = read_network(d);
     let n = network_refusal(network);
     if n != 0 {
         return n;
     }
-    body_refusal(network.message_type, &d[BODY_START..BODY_START + size])
+    let end = BODY_START + (wire::u16_at(d, 28) / 8 - NETWORK_BYTES) as usize;
+    body_refusal(network.message_type, &d[BODY_START..end])
 }
 
-// The number of the first rule from 4 on that is broken, or 0.
-pub(crate) fn refusal(d: &[u8]) -> u8
+// The number of the first broken rule of 4, 10, 11, 12 and 8, or 0.
+fn layout_refusal(d: &[u8]) -> u8
     requires { ⌜ 12 ≤ length (now d) ⌝ }
-    ensures { λ r. ⌜ r ≡ first (signalRules (now (d .entry))) ⌝ }
+    ensures { λ r. ⌜ r ≡ first (take 5 (signalRules (now (d .entry)))) ⌝ }
 {
     if common::wrong_length(LEAST, d) {
         return 4;
@@ -193,7 +195,19 @@ pub(crate) fn refusal(d: &[u8]) -> u8
     if bad_size {
         return 8;
     }
-    inner_refusal(d, (bits / 8 - NETWORK_BYTES) as usize)
+    0
+}
+
+// The number of the first rule from 4 on that is broken, or 0.
+pub(crate) fn refusal(d: &[u8]) -> u8
+    requires { ⌜ 12 ≤ length (now d) ⌝ }
+    ensures { λ r. ⌜ r ≡ first (signalRules (now (d .entry))) ⌝ }
+{
+    let n = layout_refusal(d);
+    if n != 0 {
+        return n;
+    }
+    inner_refusal(d)
 }
 
 // The fields of a Signal.
@@ -223,10 +237,24 @@ fn is_head_blank(d: &[u8]) -> bool
 }
 
 // Whether every padding bit of a taken Signal, and its fill, is zero.
-pub(crate) fn is_blank(d: &[u8]) -> bool
+fn is_blank(d: &[u8]) -> bool
     requires { ⌜ (52 + bodySize (now d) ≤ length (now d)) × (160 ≤ num 2 28 (now d)) ⌝ }
     ensures { λ r. ⌜ r ≡ (allBlank 0 signalTable (now (d .entry)) && allZero (drop (52 + bodySize (now (d .entry))) (now (d .entry)))) ⌝ }
 {
     let end = BODY_START + (wire::u16_at(d, 28) / 8 - NETWORK_BYTES) as usize;
     wire::both(is_head_blank(d), wire::is_zero(&d[end..]))
+}
+
+// Whether no rule from 4 on is broken, and every padding bit and the fill is zero.
+pub(crate) fn is_written(d: &[u8]) -> bool
+    requires { ⌜ 12 ≤ length (now d) ⌝ }
+    ensures { λ r. ⌜ r ≡ (eqb (first (signalRules (now (d .entry)))) 0 && (allBlank 0 signalTable (now (d .entry)) && allZero (drop (52 + bodySize (now (d .entry))) (now (d .entry))))) ⌝ }
+{
+    if layout_refusal(d) != 0 {
+        return false;
+    }
+    if inner_refusal(d) != 0 {
+        return false;
+    }
+    is_blank(d)
 }

@@ -1,7 +1,9 @@
 // Reading a Transmitter.
 ghost use mathlib.Core.Path.{_≡_};
+ghost use mathlib.Core.Bool.{_&&_};
 ghost use Prim.Native.Nat.{_≤_};
-ghost use lib.ListN.{length};
+ghost use lib.Dec.{eqb};
+ghost use lib.ListN.{length, take};
 ghost use Rattle.wire.specs.First.{first};
 ghost use Rattle.wire.specs.Table.{allBlank};
 ghost use Rattle.pdu.specs.Tables.{transmitterTable};
@@ -89,10 +91,10 @@ fn read_sync(d: &[u8]) -> Sync
     }
 }
 
-// The number of the first rule from 4 on that is broken, or 0.
-pub(crate) fn refusal(d: &[u8]) -> u8
+// The number of the first broken rule of 4 to 8, or 0.
+fn layout_refusal(d: &[u8]) -> u8
     requires { ⌜ 12 ≤ length (now d) ⌝ }
-    ensures { λ r. ⌜ r ≡ first (transmitterRules (now (d .entry))) ⌝ }
+    ensures { λ r. ⌜ r ≡ first (take 5 (transmitterRules (now (d .entry)))) ⌝ }
 {
     if common::wrong_length(LEAST, d) {
         return 4;
@@ -108,6 +110,18 @@ pub(crate) fn refusal(d: &[u8]) -> u8
     }
     if d.len() != SIZE {
         return 8;
+    }
+    0
+}
+
+// The number of the first rule from 4 on that is broken, or 0.
+pub(crate) fn refusal(d: &[u8]) -> u8
+    requires { ⌜ 12 ≤ length (now d) ⌝ }
+    ensures { λ r. ⌜ r ≡ first (transmitterRules (now (d .entry))) ⌝ }
+{
+    let n = layout_refusal(d);
+    if n != 0 {
+        return n;
     }
     if wrong_sync(read_sync(d)) {
         return 9;
@@ -173,10 +187,24 @@ pub(crate) fn fields(d: &[u8]) -> Transmitter
 }
 
 // Whether every padding byte is zero.
-pub(crate) fn is_blank(d: &[u8]) -> bool
+fn is_blank(d: &[u8]) -> bool
     requires { ⌜ 112 ≤ length (now d) ⌝ }
     ensures { λ r. ⌜ r ≡ allBlank 0 transmitterTable (now (d .entry)) ⌝ }
 {
     let late = wire::both(wire::u16_at(d, 30) == 0, wire::u24_at(d, 101) == 0);
     wire::both(wire::u16_at(d, 10) == 0, late)
+}
+
+// Whether no rule from 4 on is broken and every padding byte is zero.
+pub(crate) fn is_written(d: &[u8]) -> bool
+    requires { ⌜ 12 ≤ length (now d) ⌝ }
+    ensures { λ r. ⌜ r ≡ (eqb (first (transmitterRules (now (d .entry)))) 0 && allBlank 0 transmitterTable (now (d .entry))) ⌝ }
+{
+    if layout_refusal(d) != 0 {
+        return false;
+    }
+    if wrong_sync(read_sync(d)) {
+        return false;
+    }
+    is_blank(d)
 }

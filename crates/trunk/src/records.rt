@@ -125,7 +125,7 @@ fn wrong_carried(r: &[u8]) -> bool
     }
     let kind = wire::u8_at(r, 0) as u16;
     let pdu = &r[HEAD_SIZE..];
-    wire::no(wire::both(pdu::is_written(pdu), kind_of(pdu::read(pdu)) == kind))
+    wire::no(kind_of(pdu::read_written(pdu)) == kind)
 }
 
 // The number of the first broken rule of a check, or 0.

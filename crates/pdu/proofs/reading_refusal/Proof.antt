@@ -1,89 +1,56 @@
--- `reading_refusal` meets its contract: at each return the tests on the way say that its rule is the first broken one; the PDU type picks
--- the rest of the list.
+-- `reading_refusal` meets its contract: a broken rule of 1, 2 and 3 answers (`first-here`), else the rules that the PDU type picks (`start-next`).
 -- Assumes nothing.
-use mathlib.Core.Path.{sym, ap, _∙_}
-use lib.ListN.{length}
+use mathlib.Core.Path.{sym, _∙_}
+use mathlib.Core.Bool.{true, false}
+use lib.ListN.{take, drop}
 use denote.Ref.{now}
-use borrow.Author.Tests.{lt-ltb, le-ltb, eq-eqb, ne-eqb}
+use native.Mathlib.Omega.{arith}
+use borrow.Author.Tests.{eq-eqb, ne-eqb}
 use borrow.Author.Needs.{needs}
 use Rattle.wire.specs.Bytes.{num}
-use Rattle.pdu.specs.Reading.{wrongVersion, readingRules, refusal}
+use Rattle.wire.proofs.FirstLaws.{first-here}
+use Rattle.pdu.specs.Reading.{readingRules, refusal}
+use Rattle.pdu.proofs.ReadingLaws.{start-long, start-next}
 use Rattle.pdu.proofs.reading_refusal.Statement.{statement}
 use Rattle.pdu.proofs.reading_refusal.Tie as tie
+
+start-refusal-requires : tie.Need-start-refusal-requires
+start-refusal-requires c κs = search needs
 
 returns : tie.Need-returns
 unfolding refusal readingRules
 returns c =
-    rw
-    (lt-ltb (length (now (c .before .before .args .d))) 12 (c .if1 .taken))
+    let rules = readingRules (now (c .before .before .before .args .d)) in
+    c .before .start-refusal .ensures
+    ∙ sym (first-here (take 3 rules) (drop 3 rules) (λ e. c .if1 .taken (c .before .start-refusal .ensures ∙ e)))
 
 u8-at-requires : tie.Need-u8-at-requires
-u8-at-requires c κs = search needs
-
-wrong-version-requires : tie.Need-wrong-version-requires
-wrong-version-requires c κs = search needs
-
-returns-2 : tie.Need-returns-2
-unfolding refusal readingRules
-returns-2 c =
-    rw (
-      le-ltb (length (now (c .before .before .before .before .before .args .d))) 12 (c .before .before .before .if1 .left),
-      sym (c .before .wrong-version .ensures ∙ ap wrongVersion (c .before .before .u8-at .ensures)) ∙ c .if2 .taken,
-    )
-
-wrong-type-requires : tie.Need-wrong-type-requires
-wrong-type-requires c κs = search needs
-
-returns-3 : tie.Need-returns-3
-unfolding refusal readingRules
-returns-3 c =
-    rw (
-      le-ltb (length (now (c .before .before .before .before .before .before .before .args .d))) 12 (c .before .before .before .before .before .if1 .left),
-      sym (c .before .before .before .wrong-version .ensures ∙ ap wrongVersion (c .before .before .before .before .u8-at .ensures)) ∙ c .before .before .if2 .left,
-      sym (c .before .wrong-type .ensures) ∙ c .if3 .taken,
-    )
-
-u8-at-requires-2 : tie.Need-u8-at-requires-2
-u8-at-requires-2 c κs = search needs
+u8-at-requires c κs = omega (arith, start-long (now (c .before .before .before .args .d)) (sym (c .before .start-refusal .ensures) ∙ c .if1 .left))
 
 refusal-requires : tie.Need-refusal-requires
-refusal-requires c κs = search needs
+refusal-requires c κs = omega (arith, start-long (now (c .before .before .before .before .before .args .d)) (sym (c .before .before .before .start-refusal .ensures) ∙ c .before .before .if1 .left))
 
 refusal-requires-2 : tie.Need-refusal-requires-2
-refusal-requires-2 c κs = search needs
+refusal-requires-2 c κs = omega (arith, start-long (now (c .before .before .before .before .before .args .d)) (sym (c .before .before .before .start-refusal .ensures) ∙ c .before .before .if1 .left))
 
-returns-4 : tie.Need-returns-4
-unfolding refusal readingRules
-returns-4 c =
-    rw (
-      le-ltb (length (now (c .before .before .before .before .before .before .before .before .before .before .args .d))) 12 (c .before .before .before .before .before .before .before .before .if1 .left),
-      sym (c .before .before .before .before .before .before .wrong-version .ensures ∙ ap wrongVersion (c .before .before .before .before .before .before .before .u8-at .ensures)) ∙ c .before .before .before .before .before .if2 .left,
-      sym (c .before .before .before .before .wrong-type .ensures) ∙ c .before .before .before .if3 .left,
-      eq-eqb (num 1 2 (now (c .before .before .before .before .before .before .before .before .before .before .args .d))) 25 (sym (c .before .before .u8-at2 .ensures) ∙ c .before .if4 .taken),
-    ) (c .refusal .ensures)
+returns-2 : tie.Need-returns-2
+returns-2 c =
+    c .refusal .ensures
+    ∙ sym (start-next (now (c .before .before .before .before .before .before .args .d)) (sym (c .before .before .before .before .start-refusal .ensures) ∙ c .before .before .before .if1 .left) true (eq-eqb (num 1 2 (now (c .before .before .before .before .before .before .args .d))) 25 (sym (c .before .before .u8-at .ensures) ∙ c .before .if2 .taken)))
 
-returns-5 : tie.Need-returns-5
-unfolding refusal readingRules
-returns-5 c =
-    rw (
-      le-ltb (length (now (c .before .before .before .before .before .before .before .before .before .before .args .d))) 12 (c .before .before .before .before .before .before .before .before .if1 .left),
-      sym (c .before .before .before .before .before .before .wrong-version .ensures ∙ ap wrongVersion (c .before .before .before .before .before .before .before .u8-at .ensures)) ∙ c .before .before .before .before .before .if2 .left,
-      sym (c .before .before .before .before .wrong-type .ensures) ∙ c .before .before .before .if3 .left,
-      ne-eqb (num 1 2 (now (c .before .before .before .before .before .before .before .before .before .before .args .d))) 25 (λ e. c .before .if4 .left (c .before .before .u8-at2 .ensures ∙ e)),
-    ) (c .refusal2 .ensures)
+returns-3 : tie.Need-returns-3
+returns-3 c =
+    c .refusal2 .ensures
+    ∙ sym (start-next (now (c .before .before .before .before .before .before .args .d)) (sym (c .before .before .before .before .start-refusal .ensures) ∙ c .before .before .before .if1 .left) false (ne-eqb (num 1 2 (now (c .before .before .before .before .before .before .args .d))) 25 (λ e. c .before .if2 .left (c .before .before .u8-at .ensures ∙ e))))
 
 pub reading-refusal-spec : {M : Type 1} → statement M
 reading-refusal-spec =
     tie.close
     (tie.spec
+    start-refusal-requires
     returns
     u8-at-requires
-    wrong-version-requires
-    returns-2
-    wrong-type-requires
-    returns-3
-    u8-at-requires-2
     refusal-requires
     refusal-requires-2
-    returns-4
-    returns-5)
+    returns-2
+    returns-3)

@@ -1,7 +1,7 @@
 -- The reader's `inner_refusal` meets its contract: the network header's rules answer where one is broken, else the body's
 -- (`first-here`, `first-next`), and the part handed on has the body's size (`part-length`).
 -- Assumes nothing.
-use Prim.Native.Nat.{ℕ}
+use Prim.Native.Nat.{ℕ, _-_, _/_}
 use mathlib.Core.Path.{sym, ap, _∙_, refl, ap₂}
 use denote.Ref.{now}
 use native.Mathlib.Omega.{arith}
@@ -10,7 +10,7 @@ use Rattle.wire.proofs.FirstLaws.{first-here, first-next}
 use Rattle.wire.specs.First.{first}
 use Rattle.pdu.specs.declared.Network.{Network}
 use Rattle.pdu.specs.Records.{signalOf}
-use Rattle.pdu.specs.Reading.{networkRules, bodyRules}
+use Rattle.pdu.specs.Reading.{networkRules, bodyRules, bodySize}
 use Rattle.pdu.proofs.ReadingLaws.{part-length}
 use Rattle.pdu.proofs.signal_reader.inner_refusal.Statement.{statement}
 use Rattle.pdu.proofs.signal_reader.inner_refusal.Tie as tie
@@ -26,8 +26,17 @@ returns c =
     (c .before .network-refusal .ensures ∙ ap (λ (n : Network). first (networkRules n)) (c .before .before .read-network .ensures))
     ∙ sym (first-here (networkRules (signalOf (now (c .before .before .before .before .args .d)) .network)) _ (λ e. c .if1 .taken ((c .before .network-refusal .ensures ∙ ap (λ (n : Network). first (networkRules n)) (c .before .before .read-network .ensures)) ∙ e)))
 
-add-body-refusal : tie.Need-add-body-refusal
-add-body-refusal c = search needs
+u16-at-requires : tie.Need-u16-at-requires
+u16-at-requires c κs = search needs
+
+sub-end : tie.Need-sub-end
+sub-end c = search needs
+
+cast-end : tie.Need-cast-end
+cast-end c = search needs
+
+add-end : tie.Need-add-end
+add-end c = search needs
 
 sub-body-refusal : tie.Need-sub-body-refusal
 sub-body-refusal c = search needs
@@ -46,9 +55,9 @@ unfolding networkRules
 returns-2 c =
     c .body-refusal .ensures
     ∙ ap₂ (λ (k n : ℕ). first (bodyRules k n))
-    (ap (λ (n : Network). n .«message_type») (c .before .before .before .before .read-network .ensures))
-    (part-length 52 (c .before .before .before .before .before .before .args .size) (now (c .before .before .before .before .before .before .args .d)) (omega arith))
-    ∙ sym (first-next (networkRules (signalOf (now (c .before .before .before .before .before .before .args .d)) .network)) (bodyRules (signalOf (now (c .before .before .before .before .before .before .args .d)) .network .«message_type») (c .before .before .before .before .before .before .args .size)) refl (sym (c .before .before .before .network-refusal .ensures ∙ ap (λ (n : Network). first (networkRules n)) (c .before .before .before .before .read-network .ensures)) ∙ c .before .before .if1 .left))
+    (ap (λ (n : Network). n .«message_type») (c .before .before .before .before .before .read-network .ensures))
+    (part-length 52 (c .before .before .u16-at .result / 8 - 20) (now (c .before .before .before .before .before .before .before .args .d)) (omega (arith, c .before .before .u16-at .ensures)) ∙ ap (λ (n : ℕ). n / 8 - 20) (c .before .before .u16-at .ensures))
+    ∙ sym (first-next (networkRules (signalOf (now (c .before .before .before .before .before .before .before .args .d)) .network)) (bodyRules (signalOf (now (c .before .before .before .before .before .before .before .args .d)) .network .«message_type») (bodySize (now (c .before .before .before .before .before .before .before .args .d)))) refl (sym (c .before .before .before .before .network-refusal .ensures ∙ ap (λ (n : Network). first (networkRules n)) (c .before .before .before .before .before .read-network .ensures)) ∙ c .before .before .before .if1 .left))
 
 pub inner-refusal-spec : {M : Type 1} → statement M
 inner-refusal-spec =
@@ -57,7 +66,10 @@ inner-refusal-spec =
     read-network-requires
     network-refusal-requires
     returns
-    add-body-refusal
+    u16-at-requires
+    sub-end
+    cast-end
+    add-end
     sub-body-refusal
     part-body-refusal-start
     part-body-refusal-end
