@@ -30,6 +30,9 @@ pub(crate) const MAJOR: u16 = 7;
 
 pub(crate) const DETAIL: u16 = 0;
 
+// Bytes 90 to 93 as one number: one test in place of two.
+const MAJOR_AND_DETAIL: u32 = MAJOR as u32 * 65536 + DETAIL as u32;
+
 pub(crate) const SYSTEM: u16 = 8;
 
 pub(crate) const MODULATION_LENGTH: u8 = 8;
@@ -57,8 +60,7 @@ fn wrong_fixed(d: &[u8]) -> bool
         wire::u8_at(d, 24) == CATEGORY,
         wire::u8_at(d, 29) == INPUT_SOURCE,
     );
-    let kind = wire::both(entity, wire::u16_at(d, 90) == MAJOR);
-    let modulation = wire::both(kind, wire::u16_at(d, 92) == DETAIL);
+    let modulation = wire::both(entity, wire::u32_at(d, 90) == MAJOR_AND_DETAIL);
     wire::no(wire::both(modulation, wire::u16_at(d, 94) == SYSTEM))
 }
 
