@@ -3,8 +3,8 @@
 use crate::pdu::read::Answer;
 
 extern "C" {
-    fn altuvrin_datagram(bytes: *const u8, length: usize) -> u64;
-    fn altuvrin_record(bytes: *const u8, length: usize) -> u64;
+    pub fn altuvrin_datagram(bytes: *const u8, length: usize) -> u64;
+    pub fn altuvrin_record(bytes: *const u8, length: usize) -> u64;
 }
 
 /// The archive's answer to a datagram.

@@ -1,4 +1,5 @@
-//! Times the archive's two calls, reading and the record check.
+//! Times the archive's two calls, reading and the record check. Both programs are called as a C host
+//! calls the archive, so that neither is charged for the way it is called.
 
 use super::table::{print_heading, Rounds};
 use super::{ROUNDS, WORDS};
@@ -16,22 +17,42 @@ const SEED: u64 = 1;
 const INPUTS: usize = 1_000;
 const REPEATS: usize = 100;
 
-/// A call of the archive, and the second program's own.
+/// The archive's interface: a pointer and a length, to number and size in one word.
+type Export = unsafe extern "C" fn(*const u8, usize) -> u64;
+
+/// A call of the archive, and the second program's own behind the same interface.
 #[derive(Clone, Copy)]
 struct Call {
-    archive: fn(&[u8]) -> Answer,
-    second: fn(&[u8]) -> Answer,
+    archive: Export,
+    second: Export,
 }
 
 const READING: Call = Call {
-    archive: archive::datagram,
-    second: read::answer,
+    archive: archive::altuvrin_datagram,
+    second: second_datagram,
 };
 
 const RECORD_CHECK: Call = Call {
-    archive: archive::record,
-    second: record::answer,
+    archive: archive::altuvrin_record,
+    second: second_record,
 };
+
+unsafe extern "C" fn second_datagram(bytes: *const u8, length: usize) -> u64 {
+    pack(read::answer(std::slice::from_raw_parts(bytes, length)))
+}
+
+unsafe extern "C" fn second_record(bytes: *const u8, length: usize) -> u64 {
+    pack(record::answer(std::slice::from_raw_parts(bytes, length)))
+}
+
+fn pack(answer: Answer) -> u64 {
+    u64::from(answer.number) << 32 | u64::from(answer.size)
+}
+
+fn answer(call: Export, input: &[u8]) -> u64 {
+    // SAFETY: the pointer and the length are those of a slice, which is only read.
+    unsafe { call(input.as_ptr(), input.len()) }
+}
 
 pub fn time_reading() {
     let mut generator = Generator::new(SEED);
@@ -70,7 +91,7 @@ pub fn time_record_check() {
 fn refused(call: Call, mut input: impl FnMut() -> Vec<u8>) -> Vec<u8> {
     loop {
         let input = input();
-        if (call.second)(&input).number != 0 {
+        if answer(call.second, &input) >> 32 != 0 {
             return input;
         }
     }
@@ -90,12 +111,12 @@ impl Call {
 }
 
 /// Nanoseconds for each call in one round.
-fn time(inputs: &[Vec<u8>], call: fn(&[u8]) -> Answer) -> f64 {
+fn time(inputs: &[Vec<u8>], call: Export) -> f64 {
     let call = black_box(call);
     let start = Instant::now();
     for _ in 0..REPEATS {
         for input in inputs {
-            black_box(call(black_box(input)));
+            black_box(answer(call, black_box(input)));
         }
     }
     start.elapsed().as_nanos() as f64 / (REPEATS * inputs.len()) as f64

@@ -30,6 +30,7 @@ impl Answer {
     }
 }
 
+#[inline(always)]
 pub fn answer(datagram: &[u8]) -> Answer {
     Answer::of(read(datagram).map(|pdu| pdu.size()))
 }
