@@ -158,6 +158,14 @@ pub(crate) fn body_refusal(message_type: u8, body: &[u8]) -> u8
     0
 }
 
+// Where the body ends.
+fn body_end(d: &[u8]) -> usize
+    requires { ⌜ (30 ≤ length (now d)) × (160 ≤ num 2 28 (now d)) ⌝ }
+    ensures { λ r. ⌜ r ≡ 52 + bodySize (now (d .entry)) ⌝ }
+{
+    BODY_START + (wire::u16_at(d, 28) / 8 - NETWORK_BYTES) as usize
+}
+
 // The number of the first broken rule of the network header and of the body, which starts at byte 52, or 0.
 fn inner_refusal(d: &[u8]) -> u8
     requires { ⌜ (52 + bodySize (now d) ≤ length (now d)) × (160 ≤ num 2 28 (now d)) ⌝ }
@@ -168,7 +176,7 @@ fn inner_refusal(d: &[u8]) -> u8
     if n != 0 {
         return n;
     }
-    let end = BODY_START + (wire::u16_at(d, 28) / 8 - NETWORK_BYTES) as usize;
+    let end = body_end(d);
     body_refusal(network.message_type, &d[BODY_START..end])
 }
 
@@ -241,7 +249,7 @@ fn is_blank(d: &[u8]) -> bool
     requires { ⌜ (52 + bodySize (now d) ≤ length (now d)) × (160 ≤ num 2 28 (now d)) ⌝ }
     ensures { λ r. ⌜ r ≡ (allBlank 0 signalTable (now (d .entry)) && allZero (drop (52 + bodySize (now (d .entry))) (now (d .entry)))) ⌝ }
 {
-    let end = BODY_START + (wire::u16_at(d, 28) / 8 - NETWORK_BYTES) as usize;
+    let end = body_end(d);
     wire::both(is_head_blank(d), wire::is_zero(&d[end..]))
 }
 

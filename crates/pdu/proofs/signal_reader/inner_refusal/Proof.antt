@@ -1,8 +1,9 @@
 -- The reader's `inner_refusal` meets its contract: the network header's rules answer where one is broken, else the body's
 -- (`first-here`, `first-next`), and the part handed on has the body's size (`part-length`).
 -- Assumes nothing.
-use Prim.Native.Nat.{ℕ, _-_, _/_}
+use Prim.Native.Nat.{ℕ, _-_}
 use mathlib.Core.Path.{sym, ap, _∙_, refl, ap₂}
+use lib.ListN.{length, take, drop}
 use denote.Ref.{now}
 use native.Mathlib.Omega.{arith}
 use borrow.Author.Needs.{needs}
@@ -26,17 +27,8 @@ returns c =
     (c .before .network-refusal .ensures ∙ ap (λ (n : Network). first (networkRules n)) (c .before .before .read-network .ensures))
     ∙ sym (first-here (networkRules (signalOf (now (c .before .before .before .before .args .d)) .network)) _ (λ e. c .if1 .taken ((c .before .network-refusal .ensures ∙ ap (λ (n : Network). first (networkRules n)) (c .before .before .read-network .ensures)) ∙ e)))
 
-u16-at-requires : tie.Need-u16-at-requires
-u16-at-requires c κs = search needs
-
-sub-end : tie.Need-sub-end
-sub-end c = search needs
-
-cast-end : tie.Need-cast-end
-cast-end c = search needs
-
-add-end : tie.Need-add-end
-add-end c = search needs
+body-end-requires : tie.Need-body-end-requires
+body-end-requires c κs = search needs
 
 sub-body-refusal : tie.Need-sub-body-refusal
 sub-body-refusal c = search needs
@@ -56,7 +48,7 @@ returns-2 c =
     c .body-refusal .ensures
     ∙ ap₂ (λ (k n : ℕ). first (bodyRules k n))
     (ap (λ (n : Network). n .«message_type») (c .before .before .before .before .before .read-network .ensures))
-    (part-length 52 (c .before .before .u16-at .result / 8 - 20) (now (c .before .before .before .before .before .before .before .args .d)) (omega (arith, c .before .before .u16-at .ensures)) ∙ ap (λ (n : ℕ). n / 8 - 20) (c .before .before .u16-at .ensures))
+    (ap (λ (end : ℕ). length (take (end - 52) (drop 52 (now (c .before .before .before .before .before .before .before .args .d))))) (c .before .before .body-end .ensures) ∙ part-length 52 (bodySize (now (c .before .before .before .before .before .before .before .args .d))) (now (c .before .before .before .before .before .before .before .args .d)) (omega arith))
     ∙ sym (first-next (networkRules (signalOf (now (c .before .before .before .before .before .before .before .args .d)) .network)) (bodyRules (signalOf (now (c .before .before .before .before .before .before .before .args .d)) .network .«message_type») (bodySize (now (c .before .before .before .before .before .before .before .args .d)))) refl (sym (c .before .before .before .before .network-refusal .ensures ∙ ap (λ (n : Network). first (networkRules n)) (c .before .before .before .before .before .read-network .ensures)) ∙ c .before .before .before .if1 .left))
 
 pub inner-refusal-spec : {M : Type 1} → statement M
@@ -66,10 +58,7 @@ inner-refusal-spec =
     read-network-requires
     network-refusal-requires
     returns
-    u16-at-requires
-    sub-end
-    cast-end
-    add-end
+    body-end-requires
     sub-body-refusal
     part-body-refusal-start
     part-body-refusal-end

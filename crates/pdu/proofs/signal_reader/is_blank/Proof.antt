@@ -1,6 +1,6 @@
 -- The Signal's `is_blank` meets its contract: the part behind the body is the fill (`part-rest`).
 -- Assumes nothing.
-use Prim.Native.Nat.{ℕ, _+_, _-_, _/_}
+use Prim.Native.Nat.{ℕ}
 use mathlib.Core.Bool.{_&&_}
 use mathlib.Core.Path.{ap, ap₂, _∙_}
 use lib.ListN.{drop}
@@ -11,17 +11,8 @@ use Rattle.pdu.proofs.ReadingLaws.{part-rest}
 use Rattle.pdu.proofs.signal_reader.is_blank.Statement.{statement}
 use Rattle.pdu.proofs.signal_reader.is_blank.Tie as tie
 
-u16-at-requires : tie.Need-u16-at-requires
-u16-at-requires c κs = search needs
-
-sub-end : tie.Need-sub-end
-sub-end c = search needs
-
-cast-end : tie.Need-cast-end
-cast-end c = search needs
-
-add-end : tie.Need-add-end
-add-end c = search needs
+body-end-requires : tie.Need-body-end-requires
+body-end-requires c κs = search needs
 
 is-head-blank-requires : tie.Need-is-head-blank-requires
 is-head-blank-requires c κs = search needs
@@ -47,17 +38,14 @@ returns c =
     ∙ ap₂ _&&_
     (c .before .before .before .is-head-blank .ensures)
     (c .before .is-zero .ensures
-    ∙ ap allZero (part-rest (52 + (c .before .before .before .before .u16-at .result / 8 - 20)) (now (c .before .before .before .before .before .before .args .d)))
-    ∙ ap (λ (n : ℕ). allZero (drop (52 + (n / 8 - 20)) (now (c .before .before .before .before .before .before .args .d)))) (c .before .before .before .before .u16-at .ensures))
+    ∙ ap allZero (part-rest (c .before .before .before .before .body-end .result) (now (c .before .before .before .before .before .before .args .d)))
+    ∙ ap (λ (end : ℕ). allZero (drop end (now (c .before .before .before .before .before .before .args .d)))) (c .before .before .before .before .body-end .ensures))
 
 pub is-blank-spec : {M : Type 1} → statement M
 is-blank-spec =
     tie.close
     (tie.spec
-    u16-at-requires
-    sub-end
-    cast-end
-    add-end
+    body-end-requires
     is-head-blank-requires
     sub-is-zero
     part-is-zero-start
