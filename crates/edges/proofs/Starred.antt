@@ -2,7 +2,7 @@
 -- Assumes nothing.
 use mathlib.Core.Path.{_≡_, refl}
 use mathlib.Core.Bool.{true}
-use Rattle.pdu.specs.Records.{headerOf, transmitterOf, signalOf}
+use Rattle.pdu.specs.Records.{transmitterOf, signalOf}
 use Rattle.pdu.specs.Reading.{wrongVersion, wrongType, wrongLength, wrongFixed, wrongSync, wrongBits, networkRules, bodyRules, transmitterRules, signalRules, readingRules, refusal, content, reading}
 use Rattle.occupancy.specs.Places.{least, count, wordOf}
 use Rattle.station.specs.Units.{fresh, placeOf}

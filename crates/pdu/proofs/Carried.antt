@@ -3,11 +3,10 @@
 -- Assumes nothing.
 use Prim.Native.Nat.{ℕ, _+_, _*_, _-_, _/_, _%_, _≤_, _<_}
 use mathlib.Core.Path.{_≡_, refl, sym, ap, subst, subst₂, _∙_}
-use mathlib.Core.Bool.{Bool, true, false, not, _&&_, cond, true≢false}
+use mathlib.Core.Bool.{true, false, true≢false}
 use mathlib.Core.List.{List, [], _∷_, _++_}
 use mathlib.Core.Logic.{_⊎_, inl, inr}
 use lib.ListN.{length, take, drop}
-use lib.Arith.{digits-mod}
 use lib.Dec.{eqb, ltb}
 use native.Mathlib.Nat.{mod-lt}
 use native.Mathlib.Omega.{arith}
@@ -16,9 +15,9 @@ use Rattle.wire.specs.Bytes.{num}
 use Rattle.wire.specs.First.{first, _given-when_}
 use Rattle.wire.proofs.FirstLaws.{first-next, unbroken}
 use Rattle.pdu.specs.Numbers
-use Rattle.pdu.specs.Records.{signalSize, transmitterOf, signalOf}
+use Rattle.pdu.specs.Records.{signalSize, signalOf}
 use Rattle.pdu.specs.Words.{wordsIn, wholeWords}
-use Rattle.pdu.specs.Reading.{wrongVersion, wrongSync, networkRules, bodyRules, bodySize, bodyOf, refusal, reading, sizeOf}
+use Rattle.pdu.specs.Reading.{networkRules, bodyRules, bodySize, bodyOf, refusal, reading, sizeOf}
 use Rattle.pdu.specs.Writing.{transmitterWriting, signalWriting}
 use Rattle.pdu.specs.declared.Transmitter.{Transmitter}
 use Rattle.pdu.specs.declared.Signal.{Signal}

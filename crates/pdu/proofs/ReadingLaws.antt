@@ -2,11 +2,11 @@
 -- Assumes nothing.
 use Prim.Native.Nat.{ℕ, _+_, _-_, _/_, _%_, _≤_}
 use mathlib.Core.Path.{_≡_, refl, ap, _∙_}
-use mathlib.Core.Bool.{Bool, true, false, cond, not, _||_, true≢false}
+use mathlib.Core.Bool.{Bool, true, false, cond, not}
 use mathlib.Core.List.{List}
 use lib.ListN.{length, take, drop, length-take, length-drop}
 use lib.Seq.{take-all}
-use lib.Dec.{eqb, ltb}
+use lib.Dec.{eqb}
 use native.Mathlib.Omega.{arith}
 use borrow.Author.Tests.{eqb-true, eq-eqb, ne-eqb, ltb-false, not-false}
 use Rattle.wire.specs.Bytes.{num}
@@ -16,12 +16,7 @@ use Rattle.wire.proofs.FirstLaws.{none-behind, unbroken, first-next}
 use Rattle.pdu.specs.Records.{filled}
 use Rattle.pdu.specs.Reading.{wrongLength, wrongBits, transmitterRules, signalRules, readingRules, refusal}
 use Rattle.pdu.specs.Writing.{inWrittenForm}
-use Rattle.pdu.proofs.RuleLaws.{none-before}
-
--- both halves of a disjunction that is false
-pub neither : (a b : Bool) → (a || b) ≡ false → (a ≡ false) × (b ≡ false)
-neither true b e = elim (true≢false e) [ ]
-neither false b e = (refl, e)
+use Rattle.pdu.proofs.RuleLaws.{equal, not-below, negated, neither, none-before}
 
 -- an inequality that a branch has shown, as the rule's test
 pub differs : (m n : ℕ) → (m ≡ n → ⊥) → not (eqb m n) ≡ true
@@ -34,13 +29,13 @@ agrees m n h = ap not (eq-eqb m n h)
 pub right-length : (least : ℕ) (d : List ℕ) → wrongLength least d ≡ false → least ≤ length d
 unfolding wrongLength
 right-length least d e =
-    let h = neither (not (eqb (num 2 8 d) (length d))) (ltb (num 2 8 d) least) e in
-    omega (arith, eqb-true (num 2 8 d) (length d) (not-false (eqb (num 2 8 d) (length d)) (h .0)), ltb-false (num 2 8 d) least (h .1))
+    let h = neither _ _ (negated _ (equal (num 2 8 d) (length d))) (not-below (num 2 8 d) least) .0 e in
+    omega (arith, h)
 
 -- refusal 12 not given: the data has at least the network header
 pub right-bits : (bits : ℕ) → wrongBits bits ≡ false → 160 ≤ bits
 unfolding wrongBits
-right-bits bits e = ltb-false bits 160 (neither (not (eqb (bits % 8) 0)) (ltb bits 160) e .1)
+right-bits bits e = neither _ _ (negated _ (equal (bits % 8) 0)) (not-below bits 160) .0 e .1
 
 -- a part that starts in the middle has the length asked for
 pub part-length : (start n : ℕ) (d : List ℕ) → start + n ≤ length d → length (take (start + n - start) (drop start d)) ≡ n

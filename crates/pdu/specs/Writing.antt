@@ -10,9 +10,11 @@ use Rattle.wire.specs.First.{Refusal, _given-when_}
 use Rattle.pdu.specs.Numbers
 use Rattle.pdu.specs.Tables.{transmitterTable, signalTable}
 use Rattle.pdu.specs.Records.{signalSize, transmitterValues, signalValues, transmitterOf, signalOf}
-use Rattle.pdu.specs.Reading.{wrongVersion, wrongSync, networkRules, bodyRules, bodySize, bodyOf, refusal}
+use Rattle.pdu.specs.Reading.{wrongVersion, wrongSync, networkRules, bodyRules, bodySize, bodyOf, refusal, reading}
 use Rattle.pdu.specs.declared.Transmitter.{Transmitter}
 use Rattle.pdu.specs.declared.Signal.{Signal}
+use Rattle.pdu.specs.declared.Reading.{Reading}
+use Rattle.pdu.specs.declared.Reading.the-variants.{Refused as NotRead}
 use Rattle.pdu.specs.declared.Written.{Written}
 use Rattle.pdu.specs.declared.Written.the-variants.{Refused, Size}
 
@@ -81,3 +83,7 @@ inWrittenForm d =
     && cond (eqb (num 1 2 d) Numbers.transmitterType)
     (allBlank 0 transmitterTable d)
     (allBlank 0 signalTable d && allZero (drop (Numbers.bodyStart + bodySize d) d))
+
+-- reading what a trunk record carries; 22: "carried bytes are not what the writer would give"
+abbrev pub readingWritten : List ℕ → Reading
+readingWritten d = cond (inWrittenForm d) (reading d) (NotRead 22)

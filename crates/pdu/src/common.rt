@@ -1,7 +1,7 @@
 // Bytes 0 to 19, which both PDUs share, and the rules that stand there.
 ghost use mathlib.Core.Path.{_≡_};
 ghost use Prim.Native.Nat.{_≤_};
-ghost use lib.ListN.{length, take, drop};
+ghost use lib.ListN.{length, take};
 ghost use Rattle.wire.specs.Bytes.{splice};
 ghost use Rattle.wire.specs.First.{first};
 ghost use Rattle.wire.specs.Table.{fill};

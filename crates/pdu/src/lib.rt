@@ -2,15 +2,13 @@
 // Every public call takes every input and is promised down to each bit of its answer and of the memory lent to it.
 
 ghost use mathlib.Core.Path.{_≡_};
-ghost use mathlib.Core.Bool.{cond};
 ghost use mathlib.Core.List.{[], _∷_};
 ghost use lib.ListN.{length};
 ghost use Rattle.wire.specs.First.{first, told};
 ghost use Rattle.pdu.specs.Numbers.{transmitterSize};
 ghost use Rattle.pdu.specs.Records.{signalSize};
 ghost use Rattle.pdu.specs.Reading.{refusal, content, reading, numberOf, sizeOf};
-ghost use Rattle.pdu.specs.declared.Reading.the-variants.{Refused};
-ghost use Rattle.pdu.specs.Writing.{transmitterBytes, transmitterWriting, signalBytes, signalWriting, answered, writtenSays, left, inWrittenForm};
+ghost use Rattle.pdu.specs.Writing.{transmitterBytes, transmitterWriting, signalBytes, signalWriting, answered, writtenSays, left, inWrittenForm, readingWritten};
 
 mod common;
 mod signal_reader;
@@ -159,12 +157,12 @@ pub fn read(datagram: &[u8]) -> Reading
     content(datagram)
 }
 
-// Reads a datagram that is in written form, as a trunk record carries it; one that is not is refused by the number 0.
+// Reads what a trunk record carries: 22 where it is not what the writer would give.
 pub fn read_written(datagram: &[u8]) -> Reading
-    ensures { λ r. ⌜ r ≡ cond (inWrittenForm (now (datagram .entry))) (reading (now (datagram .entry))) (Refused 0) ⌝ }
+    ensures { λ r. ⌜ r ≡ readingWritten (now (datagram .entry)) ⌝ }
 {
     if wire::no(is_written(datagram)) {
-        return Reading::Refused(0);
+        return Reading::Refused(22);
     }
     content(datagram)
 }

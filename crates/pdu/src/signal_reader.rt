@@ -9,7 +9,7 @@ ghost use Rattle.wire.specs.Bytes.{num, allZero};
 ghost use Rattle.wire.specs.First.{first};
 ghost use Rattle.wire.specs.Table.{allBlank};
 ghost use Rattle.pdu.specs.Tables.{signalTable};
-ghost use Rattle.pdu.specs.Records.{headerOf, signalOf, filled, signalSize};
+ghost use Rattle.pdu.specs.Records.{signalOf, filled, signalSize};
 ghost use Rattle.pdu.specs.Reading.{bodySize, wrongBits, wrongSecurity, networkRules, bodyRules, signalRules};
 use crate::Network;
 use crate::Signal;

@@ -7,7 +7,7 @@ ghost use lib.ListN.{length, take};
 ghost use Rattle.wire.specs.First.{first};
 ghost use Rattle.wire.specs.Table.{allBlank};
 ghost use Rattle.pdu.specs.Tables.{transmitterTable};
-ghost use Rattle.pdu.specs.Records.{headerOf, transmitterOf};
+ghost use Rattle.pdu.specs.Records.{transmitterOf};
 ghost use Rattle.pdu.specs.Reading.{wrongFixed, wrongSync, transmitterRules};
 use crate::Antenna;
 use crate::Emission;

@@ -5,7 +5,7 @@ use mathlib.Core.Path.{_≡_, refl, sym, ap, _∙_}
 use mathlib.Core.Bool.{Bool, true, false, cond, not, _&&_}
 use mathlib.Core.List.{List, _∷_, _++_}
 use lib.ListN.{length, take, drop, length-take, length-drop}
-use lib.Dec.{eqb, leb, ltb}
+use lib.Dec.{eqb, leb}
 use native.Mathlib.Nat.{add-sub-cancel-left}
 use native.Mathlib.Omega.{arith}
 use borrow.Author.Tests.{eqb-true, eqb-false, ltb-false, not-false, leb-true}
@@ -15,7 +15,7 @@ use Rattle.wire.proofs.ByteLaws.{splice-start}
 use Rattle.wire.proofs.FirstLaws.{none-behind, unbroken}
 use Rattle.pdu.specs.Reading.{reading, numberOf}
 use Rattle.pdu.specs.declared.Reading.{Reading}
-use Rattle.pdu.proofs.ReadingLaws.{neither}
+use Rattle.pdu.proofs.RuleLaws.{not-below, neither}
 use Rattle.pdu.proofs.Carried.{taken-words}
 use Rattle.trunk.specs.Kinds.{words, transmitter, nothing, unknown, loadSize, recordSize, kindOf, kindOfWords, noKind}
 use Rattle.trunk.specs.Record.{kindIn, numberIn, lastNumber, isReply, lastOfAll, checkRules}
@@ -118,12 +118,12 @@ unfolding arrivalRules
 arrival-fits r replyRoom room e =
     let rules = arrivalRules r replyRoom room in
     let exact = right-size r (unbroken 1 rules refl e) in
-    let space = neither (ltb replyRoom 5) (ltb room 180) (unbroken 5 rules refl e) in
+    let space = neither _ _ (not-below replyRoom 5) (not-below room 180) .0 (unbroken 5 rules refl e) in
     record {
       head = omega (arith, exact);
       size = rw exact (record-small (kindIn r));
-      reply = ltb-false replyRoom 5 (space .0);
-      output = ltb-false room 180 (space .1);
+      reply = space .0;
+      output = space .1;
       number = last-not r (unbroken 2 rules refl e) (unbroken 3 rules refl e);
     }
 

@@ -18,16 +18,24 @@ u8-at-requires : tie.Need-u8-at-requires
 u8-at-requires c κs = omega (arith, taken-long (now (c .before .args .d)) (c .before .pre))
 
 fields-requires : tie.Need-fields-requires
-fields-requires c κs = omega (arith, transmitter-size (now (c .before .before .before .args .d)) (taken-transmitter (now (c .before .before .before .args .d)) (c .before .before .before .pre) (eq-eqb (num 1 2 (now (c .before .before .before .args .d))) 25 (sym (c .before .u8-at .ensures) ∙ c .if1 .taken))))
+fields-requires c κs =
+    let given = c .before .before .before .args in
+    omega (arith, transmitter-size (now (given .d)) (taken-transmitter (now (given .d)) (c .before .before .before .pre) (eq-eqb (num 1 2 (now (given .d))) 25 (sym (c .before .u8-at .ensures) ∙ c .if1 .taken))))
 
 u16-at-requires : tie.Need-u16-at-requires
-u16-at-requires c κs = omega (arith, signal-bits (now (c .before .before .before .args .d)) (taken-signal (now (c .before .before .before .args .d)) (c .before .before .before .pre) (ne-eqb (num 1 2 (now (c .before .before .before .args .d))) 25 (λ e. c .if1 .left (c .before .u8-at .ensures ∙ e)))), signal-length (now (c .before .before .before .args .d)) (taken-signal (now (c .before .before .before .args .d)) (c .before .before .before .pre) (ne-eqb (num 1 2 (now (c .before .before .before .args .d))) 25 (λ e. c .if1 .left (c .before .u8-at .ensures ∙ e)))))
+u16-at-requires c κs =
+    let given = c .before .before .before .args in
+    omega (arith, signal-bits (now (given .d)) (taken-signal (now (given .d)) (c .before .before .before .pre) (ne-eqb (num 1 2 (now (given .d))) 25 (λ e. c .if1 .left (c .before .u8-at .ensures ∙ e)))), signal-length (now (given .d)) (taken-signal (now (given .d)) (c .before .before .before .pre) (ne-eqb (num 1 2 (now (given .d))) 25 (λ e. c .if1 .left (c .before .u8-at .ensures ∙ e)))))
 
 fields-requires-2 : tie.Need-fields-requires-2
-fields-requires-2 c κs = omega (arith, signal-bits (now (c .before .before .before .before .args .d)) (taken-signal (now (c .before .before .before .before .args .d)) (c .before .before .before .before .pre) (ne-eqb (num 1 2 (now (c .before .before .before .before .args .d))) 25 (λ e. c .before .if1 .left (c .before .before .u8-at .ensures ∙ e)))), signal-length (now (c .before .before .before .before .args .d)) (taken-signal (now (c .before .before .before .before .args .d)) (c .before .before .before .before .pre) (ne-eqb (num 1 2 (now (c .before .before .before .before .args .d))) 25 (λ e. c .before .if1 .left (c .before .before .u8-at .ensures ∙ e)))))
+fields-requires-2 c κs =
+    let given = c .before .before .before .before .args in
+    omega (arith, signal-bits (now (given .d)) (taken-signal (now (given .d)) (c .before .before .before .before .pre) (ne-eqb (num 1 2 (now (given .d))) 25 (λ e. c .before .if1 .left (c .before .before .u8-at .ensures ∙ e)))), signal-length (now (given .d)) (taken-signal (now (given .d)) (c .before .before .before .before .pre) (ne-eqb (num 1 2 (now (given .d))) 25 (λ e. c .before .if1 .left (c .before .before .u8-at .ensures ∙ e)))))
 
 sub-t9 : tie.Need-sub-t9
-sub-t9 c = omega (arith, signal-bits (now (c .before .before .before .before .before .args .d)) (taken-signal (now (c .before .before .before .before .before .args .d)) (c .before .before .before .before .before .pre) (ne-eqb (num 1 2 (now (c .before .before .before .before .before .args .d))) 25 (λ e. c .before .before .if1 .left (c .before .before .before .u8-at .ensures ∙ e)))), c .before .u16-at .ensures)
+sub-t9 c =
+    let given = c .before .before .before .before .before .args in
+    omega (arith, signal-bits (now (given .d)) (taken-signal (now (given .d)) (c .before .before .before .before .before .pre) (ne-eqb (num 1 2 (now (given .d))) 25 (λ e. c .before .before .if1 .left (c .before .before .before .u8-at .ensures ∙ e)))), c .before .u16-at .ensures)
 
 returns : tie.Need-returns
 unfolding content

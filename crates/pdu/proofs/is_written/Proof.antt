@@ -21,8 +21,9 @@ start-refusal-requires c κs = search needs
 returns : tie.Need-returns
 unfolding inWrittenForm refusal
 returns c =
+    let given = c .before .before .before .args in
     rw
-    (ne-eqb (refusal (now (c .before .before .before .args .datagram))) 0 (λ e. c .if1 .taken (c .before .start-refusal .ensures ∙ none-before 3 (readingRules (now (c .before .before .before .args .datagram))) e)))
+    (ne-eqb (refusal (now (given .datagram))) 0 (λ e. c .if1 .taken (c .before .start-refusal .ensures ∙ none-before 3 (readingRules (now (given .datagram))) e)))
 
 u8-at-requires : tie.Need-u8-at-requires
 u8-at-requires c κs = omega (arith, start-long (now (c .before .before .before .args .datagram)) (sym (c .before .start-refusal .ensures) ∙ c .if1 .left))
@@ -36,14 +37,16 @@ is-written-requires-2 c κs = omega (arith, start-long (now (c .before .before .
 returns-2 : tie.Need-returns-2
 unfolding inWrittenForm
 returns-2 c =
-    let type = eq-eqb (num 1 2 (now (c .before .before .before .before .before .before .args .datagram))) 25 (sym (c .before .before .u8-at .ensures) ∙ c .before .if2 .taken) in
-    rw (start-next (now (c .before .before .before .before .before .before .args .datagram)) (sym (c .before .before .before .before .start-refusal .ensures) ∙ c .before .before .before .if1 .left) true type, type) (c .is-written .ensures)
+    let given = c .before .before .before .before .before .before .args in
+    let type = eq-eqb (num 1 2 (now (given .datagram))) 25 (sym (c .before .before .u8-at .ensures) ∙ c .before .if2 .taken) in
+    rw (start-next (now (given .datagram)) (sym (c .before .before .before .before .start-refusal .ensures) ∙ c .before .before .before .if1 .left) true type, type) (c .is-written .ensures)
 
 returns-3 : tie.Need-returns-3
 unfolding inWrittenForm
 returns-3 c =
-    let type = ne-eqb (num 1 2 (now (c .before .before .before .before .before .before .args .datagram))) 25 (λ e. c .before .if2 .left (c .before .before .u8-at .ensures ∙ e)) in
-    rw (start-next (now (c .before .before .before .before .before .before .args .datagram)) (sym (c .before .before .before .before .start-refusal .ensures) ∙ c .before .before .before .if1 .left) false type, type) (c .is-written2 .ensures)
+    let given = c .before .before .before .before .before .before .args in
+    let type = ne-eqb (num 1 2 (now (given .datagram))) 25 (λ e. c .before .if2 .left (c .before .before .u8-at .ensures ∙ e)) in
+    rw (start-next (now (given .datagram)) (sym (c .before .before .before .before .start-refusal .ensures) ∙ c .before .before .before .if1 .left) false type, type) (c .is-written2 .ensures)
 
 pub is-written-spec : {M : Type 1} → statement M
 is-written-spec =

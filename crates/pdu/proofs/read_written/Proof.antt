@@ -1,9 +1,9 @@
 -- `read_written` meets its contract: a datagram in written form is taken, and reading answers what it holds.
 -- Assumes nothing.
 use mathlib.Core.Path.{sym, ap, _∙_}
-use mathlib.Core.Bool.{cond, not}
+use mathlib.Core.Bool.{not}
 use denote.Ref.{now}
-use borrow.Author.Tests.{eq-eqb, eqb-true, not-true, not-false}
+use borrow.Author.Tests.{eq-eqb, not-true, not-false}
 use borrow.Author.Needs.{needs}
 use Rattle.pdu.specs.Reading.{refusal, reading}
 use Rattle.pdu.specs.Writing.{inWrittenForm}
@@ -23,13 +23,16 @@ returns c =
     (not-true (inWrittenForm (now (c .before .before .before .before .args .datagram))) (sym (c .before .no .ensures ∙ ap not (c .before .before .is-written .ensures)) ∙ c .if1 .taken))
 
 content-requires : tie.Need-content-requires
-content-requires c κs = written-taken (now (c .before .before .before .before .args .datagram)) (not-false (inWrittenForm (now (c .before .before .before .before .args .datagram))) (sym (c .before .no .ensures ∙ ap not (c .before .before .is-written .ensures)) ∙ c .if1 .left))
+content-requires c κs =
+    let given = c .before .before .before .before .args in
+    written-taken (now (given .datagram)) (not-false (inWrittenForm (now (given .datagram))) (sym (c .before .no .ensures ∙ ap not (c .before .before .is-written .ensures)) ∙ c .if1 .left))
 
 returns-2 : tie.Need-returns-2
 unfolding reading
 returns-2 c =
-    let written = not-false (inWrittenForm (now (c .before .before .before .before .before .args .datagram))) (sym (c .before .before .no .ensures ∙ ap not (c .before .before .before .is-written .ensures)) ∙ c .before .if1 .left) in
-    rw (written, eq-eqb (refusal (now (c .before .before .before .before .before .args .datagram))) 0 (written-taken (now (c .before .before .before .before .before .args .datagram)) written)) (c .content .ensures)
+    let given = c .before .before .before .before .before .args in
+    let written = not-false (inWrittenForm (now (given .datagram))) (sym (c .before .before .no .ensures ∙ ap not (c .before .before .before .is-written .ensures)) ∙ c .before .if1 .left) in
+    rw (written, eq-eqb (refusal (now (given .datagram))) 0 (written-taken (now (given .datagram)) written)) (c .content .ensures)
 
 pub read-written-spec : {M : Type 1} → statement M
 read-written-spec =

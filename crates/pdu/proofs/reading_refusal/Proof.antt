@@ -35,13 +35,15 @@ refusal-requires-2 c κs = omega (arith, start-long (now (c .before .before .bef
 
 returns-2 : tie.Need-returns-2
 returns-2 c =
+    let given = c .before .before .before .before .before .before .args in
     c .refusal .ensures
-    ∙ sym (start-next (now (c .before .before .before .before .before .before .args .d)) (sym (c .before .before .before .before .start-refusal .ensures) ∙ c .before .before .before .if1 .left) true (eq-eqb (num 1 2 (now (c .before .before .before .before .before .before .args .d))) 25 (sym (c .before .before .u8-at .ensures) ∙ c .before .if2 .taken)))
+    ∙ sym (start-next (now (given .d)) (sym (c .before .before .before .before .start-refusal .ensures) ∙ c .before .before .before .if1 .left) true (eq-eqb (num 1 2 (now (given .d))) 25 (sym (c .before .before .u8-at .ensures) ∙ c .before .if2 .taken)))
 
 returns-3 : tie.Need-returns-3
 returns-3 c =
+    let given = c .before .before .before .before .before .before .args in
     c .refusal2 .ensures
-    ∙ sym (start-next (now (c .before .before .before .before .before .before .args .d)) (sym (c .before .before .before .before .start-refusal .ensures) ∙ c .before .before .before .if1 .left) false (ne-eqb (num 1 2 (now (c .before .before .before .before .before .before .args .d))) 25 (λ e. c .before .if2 .left (c .before .before .u8-at .ensures ∙ e))))
+    ∙ sym (start-next (now (given .d)) (sym (c .before .before .before .before .start-refusal .ensures) ∙ c .before .before .before .if1 .left) false (ne-eqb (num 1 2 (now (given .d))) 25 (λ e. c .before .if2 .left (c .before .before .u8-at .ensures ∙ e))))
 
 pub reading-refusal-spec : {M : Type 1} → statement M
 reading-refusal-spec =

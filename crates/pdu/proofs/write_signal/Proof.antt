@@ -22,27 +22,34 @@ refusal-requires c κs = search needs
 
 returns : tie.Need-returns
 returns c =
-    let no = ne-eqb (first (signalWriting (c .before .before .before .before .args .s) (length (now (c .before .before .before .before .args .body))) (length (now (c .before .before .before .before .args .out))))) 0 (λ e. c .if1 .taken (c .before .refusal .ensures ∙ e)) in
+    let given = c .before .before .before .before .args in
+    let no = ne-eqb (first (signalWriting (given .s) (length (now (given .body))) (length (now (given .out))))) 0 (λ e. c .if1 .taken (c .before .refusal .ensures ∙ e)) in
     (rw no (ap Refused (c .before .refusal .ensures)), (rw no (ap (λ (n : ℕ). n ∷ []) (c .before .refusal .ensures)), rw no))
 
 put-requires : tie.Need-put-requires
 put-requires c κs =
-    let fits = (signal-fits (c .before .before .before .before .before .args .s) (length (now (c .before .before .before .before .before .args .body))) (length (now (c .before .before .before .before .before .args .out))) (sym (c .before .before .refusal .ensures) ∙ c .before .if1 .left)) in
+    let given = c .before .before .before .before .before .args in
+    let fits = (signal-fits (given .s) (length (now (given .body))) (length (now (given .out))) (sym (c .before .before .refusal .ensures) ∙ c .before .if1 .left)) in
     (fits .space, fits .encoding, fits .slot, fits .body)
 
 signal-size-requires : tie.Need-signal-size-requires
-signal-size-requires c κs = omega (arith, (signal-fits (c .before .before .before .before .before .before .before .before .args .s) (length (now (c .before .before .before .before .before .before .before .before .args .body))) (length (now (c .before .before .before .before .before .before .before .before .args .out))) (sym (c .before .before .before .before .before .refusal .ensures) ∙ c .before .before .before .before .if1 .left)) .body)
+signal-size-requires c κs =
+    let given = c .before .before .before .before .before .before .before .before .args in
+    let fits = signal-fits (given .s) (length (now (given .body))) (length (now (given .out))) (sym (c .before .before .before .before .before .refusal .ensures) ∙ c .before .before .before .before .if1 .left) in
+    omega (arith, fits .body)
 
 same-length : tie.Need-same-length
 same-length c = search needs
 
 returns-2 : tie.Need-returns-2
 returns-2 c =
-    let yes = eq-eqb (first (signalWriting (c .before .before .before .before .before .before .before .before .before .args .s) (length (now (c .before .before .before .before .before .before .before .before .before .args .body))) (length (now (c .before .before .before .before .before .before .before .before .before .args .out))))) 0 (sym (c .before .before .before .before .before .before .refusal .ensures) ∙ c .before .before .before .before .before .if1 .left) in (
+    let given = c .before .before .before .before .before .before .before .before .before .args in
+    let fits = signal-fits (given .s) (length (now (given .body))) (length (now (given .out))) (sym (c .before .before .before .before .before .before .refusal .ensures) ∙ c .before .before .before .before .before .if1 .left) in
+    let yes = eq-eqb (first (signalWriting (given .s) (length (now (given .body))) (length (now (given .out))))) 0 (sym (c .before .before .before .before .before .before .refusal .ensures) ∙ c .before .before .before .before .before .if1 .left) in (
       rw yes (ap Size (c .signal-size .ensures)),
       (
         rw yes (ap (λ (n : ℕ). 0 ∷ n ∷ []) (c .signal-size .ensures)),
-        rw yes (c .before .before .before .put .ensures ∙ splice-start (signalBytes (c .before .before .before .before .before .before .before .before .before .args .s) (now (c .before .before .before .before .before .before .before .before .before .args .body))) (now (c .before .before .before .before .before .before .before .before .before .args .out)) (rw (length-signal (c .before .before .before .before .before .before .before .before .before .args .s) (now (c .before .before .before .before .before .before .before .before .before .args .body))) ((signal-fits (c .before .before .before .before .before .before .before .before .before .args .s) (length (now (c .before .before .before .before .before .before .before .before .before .args .body))) (length (now (c .before .before .before .before .before .before .before .before .before .args .out))) (sym (c .before .before .before .before .before .before .refusal .ensures) ∙ c .before .before .before .before .before .if1 .left)) .space))),
+        rw yes (c .before .before .before .put .ensures ∙ splice-start (signalBytes (given .s) (now (given .body))) (now (given .out)) (rw (length-signal (given .s) (now (given .body))) (fits .space))),
       ),
     )
 

@@ -22,11 +22,14 @@ refusal-requires c κs = search needs
 
 returns : tie.Need-returns
 returns c =
-    let no = ne-eqb (first (transmitterWriting (c .before .before .before .args .t) (length (now (c .before .before .before .args .out))))) 0 (λ e. c .if1 .taken (c .before .refusal .ensures ∙ e)) in
+    let given = c .before .before .before .args in
+    let no = ne-eqb (first (transmitterWriting (given .t) (length (now (given .out))))) 0 (λ e. c .if1 .taken (c .before .refusal .ensures ∙ e)) in
     (rw no (ap Refused (c .before .refusal .ensures)), (rw no (ap (λ (n : ℕ). n ∷ []) (c .before .refusal .ensures)), rw no))
 
 put-requires : tie.Need-put-requires
-put-requires c κs = omega (arith, transmitter-fits (c .before .before .before .before .args .t) (length (now (c .before .before .before .before .args .out))) (sym (c .before .before .refusal .ensures) ∙ c .before .if1 .left))
+put-requires c κs =
+    let given = c .before .before .before .before .args in
+    omega (arith, transmitter-fits (given .t) (length (now (given .out))) (sym (c .before .before .refusal .ensures) ∙ c .before .if1 .left))
 
 same-length : tie.Need-same-length
 same-length c = search needs
@@ -34,11 +37,13 @@ same-length c = search needs
 returns-2 : tie.Need-returns-2
 unfolding transmitterBytes
 returns-2 c =
-    let yes = eq-eqb (first (transmitterWriting (c .before .before .before .before .before .before .before .args .t) (length (now (c .before .before .before .before .before .before .before .args .out))))) 0 (sym (c .before .before .before .before .before .refusal .ensures) ∙ c .before .before .before .before .if1 .left) in (
+    let given = c .before .before .before .before .before .before .before .args in
+    let fits = transmitter-fits (given .t) (length (now (given .out))) (sym (c .before .before .before .before .before .refusal .ensures) ∙ c .before .before .before .before .if1 .left) in
+    let yes = eq-eqb (first (transmitterWriting (given .t) (length (now (given .out))))) 0 (sym (c .before .before .before .before .before .refusal .ensures) ∙ c .before .before .before .before .if1 .left) in (
       rw yes,
       (
         rw yes,
-        rw yes (c .before .before .put .ensures ∙ splice-start (transmitterBytes (c .before .before .before .before .before .before .before .args .t)) (now (c .before .before .before .before .before .before .before .args .out)) (transmitter-fits (c .before .before .before .before .before .before .before .args .t) (length (now (c .before .before .before .before .before .before .before .args .out))) (sym (c .before .before .before .before .before .refusal .ensures) ∙ c .before .before .before .before .if1 .left))),
+        rw yes (c .before .before .put .ensures ∙ splice-start (transmitterBytes (given .t)) (now (given .out)) fits),
       ),
     )
 

@@ -24,43 +24,48 @@ add-if2 c = search needs
 returns : tie.Need-returns
 unfolding bodyRules
 returns c =
+    let given = c .before .before .before .before .args in
     rw (
-      eq-eqb (c .before .before .before .before .args .message-type) 0 (c .before .before .if1 .taken),
-      differs (length (now (c .before .before .before .before .args .body))) (6 + 10 * wordsIn (length (now (c .before .before .before .before .args .body)))) (λ e. c .if2 .taken (e ∙ sym (ap (λ (n : ℕ). 6 + 10 * n) (c .before .count .ensures)))),
+      eq-eqb (given .message-type) 0 (c .before .before .if1 .taken),
+      differs (length (now (given .body))) (6 + 10 * wordsIn (length (now (given .body)))) (λ e. c .if2 .taken (e ∙ sym (ap (λ (n : ℕ). 6 + 10 * n) (c .before .count .ensures)))),
     )
 
 returns-2 : tie.Need-returns-2
 unfolding bodyRules
 returns-2 c =
+    let given = c .before .before .before .before .before .args in
     rw (
-      eq-eqb (c .before .before .before .before .before .args .message-type) 0 (c .before .before .before .if1 .taken),
-      agrees (length (now (c .before .before .before .before .before .args .body))) (6 + 10 * wordsIn (length (now (c .before .before .before .before .before .args .body)))) (c .before .if2 .left ∙ ap (λ (n : ℕ). 6 + 10 * n) (c .before .before .count .ensures)),
-      lt-ltb 12 (wordsIn (length (now (c .before .before .before .before .before .args .body)))) (rw (c .before .before .count .ensures) at (c .if3 .taken)),
+      eq-eqb (given .message-type) 0 (c .before .before .before .if1 .taken),
+      agrees (length (now (given .body))) (6 + 10 * wordsIn (length (now (given .body)))) (c .before .if2 .left ∙ ap (λ (n : ℕ). 6 + 10 * n) (c .before .before .count .ensures)),
+      lt-ltb 12 (wordsIn (length (now (given .body)))) (rw (c .before .before .count .ensures) at (c .if3 .taken)),
     )
 
 returns-3 : tie.Need-returns-3
 unfolding bodyRules
 returns-3 c =
+    let given = c .before .before .before .before .before .args in
     rw (
-      eq-eqb (c .before .before .before .before .before .args .message-type) 0 (c .before .before .before .if1 .taken),
-      agrees (length (now (c .before .before .before .before .before .args .body))) (6 + 10 * wordsIn (length (now (c .before .before .before .before .before .args .body)))) (c .before .if2 .left ∙ ap (λ (n : ℕ). 6 + 10 * n) (c .before .before .count .ensures)),
-      le-ltb 12 (wordsIn (length (now (c .before .before .before .before .before .args .body)))) (rw (c .before .before .count .ensures) at (c .if3 .left)),
+      eq-eqb (given .message-type) 0 (c .before .before .before .if1 .taken),
+      agrees (length (now (given .body))) (6 + 10 * wordsIn (length (now (given .body)))) (c .before .if2 .left ∙ ap (λ (n : ℕ). 6 + 10 * n) (c .before .before .count .ensures)),
+      le-ltb 12 (wordsIn (length (now (given .body)))) (rw (c .before .before .count .ensures) at (c .if3 .left)),
     )
 
 returns-4 : tie.Need-returns-4
 unfolding bodyRules
 returns-4 c =
+    let given = c .before .before .before .args in
     rw (
-      ne-eqb (c .before .before .before .args .message-type) 0 (c .before .if1 .left),
-      lt-ltb 256 (length (now (c .before .before .before .args .body))) (c .if4 .taken),
+      ne-eqb (given .message-type) 0 (c .before .if1 .left),
+      lt-ltb 256 (length (now (given .body))) (c .if4 .taken),
     )
 
 returns-5 : tie.Need-returns-5
 unfolding bodyRules
 returns-5 c =
+    let given = c .before .before .before .args in
     rw (
-      ne-eqb (c .before .before .before .args .message-type) 0 (c .before .if1 .left),
-      le-ltb 256 (length (now (c .before .before .before .args .body))) (c .if4 .left),
+      ne-eqb (given .message-type) 0 (c .before .if1 .left),
+      le-ltb 256 (length (now (given .body))) (c .if4 .left),
     )
 
 pub body-refusal-spec : {M : Type 1} → statement M

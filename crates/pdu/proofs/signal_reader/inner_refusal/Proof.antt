@@ -45,11 +45,12 @@ body-refusal-requires c κs = search needs
 returns-2 : tie.Need-returns-2
 unfolding networkRules
 returns-2 c =
+    let given = c .before .before .before .before .before .before .before .args in
     c .body-refusal .ensures
     ∙ ap₂ (λ (k n : ℕ). first (bodyRules k n))
     (ap (λ (n : Network). n .«message_type») (c .before .before .before .before .before .read-network .ensures))
-    (ap (λ (end : ℕ). length (take (end - 52) (drop 52 (now (c .before .before .before .before .before .before .before .args .d))))) (c .before .before .body-end .ensures) ∙ part-length 52 (bodySize (now (c .before .before .before .before .before .before .before .args .d))) (now (c .before .before .before .before .before .before .before .args .d)) (omega arith))
-    ∙ sym (first-next (networkRules (signalOf (now (c .before .before .before .before .before .before .before .args .d)) .network)) (bodyRules (signalOf (now (c .before .before .before .before .before .before .before .args .d)) .network .«message_type») (bodySize (now (c .before .before .before .before .before .before .before .args .d)))) refl (sym (c .before .before .before .before .network-refusal .ensures ∙ ap (λ (n : Network). first (networkRules n)) (c .before .before .before .before .before .read-network .ensures)) ∙ c .before .before .before .if1 .left))
+    (ap (λ (end : ℕ). length (take (end - 52) (drop 52 (now (given .d))))) (c .before .before .body-end .ensures) ∙ part-length 52 (bodySize (now (given .d))) (now (given .d)) (omega arith))
+    ∙ sym (first-next (networkRules (signalOf (now (given .d)) .network)) (bodyRules (signalOf (now (given .d)) .network .«message_type») (bodySize (now (given .d)))) refl (sym (c .before .before .before .before .network-refusal .ensures ∙ ap (λ (n : Network). first (networkRules n)) (c .before .before .before .before .before .read-network .ensures)) ∙ c .before .before .before .if1 .left))
 
 pub inner-refusal-spec : {M : Type 1} → statement M
 inner-refusal-spec =

@@ -34,12 +34,13 @@ both-requires c κs = search needs
 
 returns : tie.Need-returns
 returns c =
+    let given = c .before .before .before .before .before .before .args in
     c .both .ensures
     ∙ ap₂ _&&_
     (c .before .before .before .is-head-blank .ensures)
     (c .before .is-zero .ensures
-    ∙ ap allZero (part-rest (c .before .before .before .before .body-end .result) (now (c .before .before .before .before .before .before .args .d)))
-    ∙ ap (λ (end : ℕ). allZero (drop end (now (c .before .before .before .before .before .before .args .d)))) (c .before .before .before .before .body-end .ensures))
+    ∙ ap allZero (part-rest (c .before .before .before .before .body-end .result) (now (given .d)))
+    ∙ ap (λ (end : ℕ). allZero (drop end (now (given .d)))) (c .before .before .before .before .body-end .ensures))
 
 pub is-blank-spec : {M : Type 1} → statement M
 is-blank-spec =

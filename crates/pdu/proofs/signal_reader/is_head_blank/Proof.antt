@@ -26,14 +26,15 @@ both-requires-2 c κs = search needs
 
 returns : tie.Need-returns
 returns c =
+    let given = c .before .before .before .before .before .before .args in
     rw (
       c .both2 .ensures,
       c .before .u16-at2 .ensures,
       c .before .before .both .ensures,
       c .before .before .before .u32-at .ensures,
       c .before .before .before .before .u16-at .ensures,
-      and-true (eqb (num 4 40 (now (c .before .before .before .before .before .before .args .d)) / 131072 % 128) 0),
-      and-true (eqb (num 4 40 (now (c .before .before .before .before .before .before .args .d)) / 131072 % 128) 0),
+      and-true (eqb (num 4 40 (now (given .d)) / 131072 % 128) 0),
+      and-true (eqb (num 4 40 (now (given .d)) / 131072 % 128) 0),
     )
 
 pub is-head-blank-spec : {M : Type 1} → statement M

@@ -20,8 +20,9 @@ layout-refusal-requires c κs = search needs
 
 returns : tie.Need-returns
 returns c =
+    let given = c .before .before .before .args in
     rw
-    (ne-eqb (first (signalRules (now (c .before .before .before .args .d)))) 0 (λ e. c .if1 .taken (c .before .layout-refusal .ensures ∙ none-before 5 (signalRules (now (c .before .before .before .args .d))) e)))
+    (ne-eqb (first (signalRules (now (given .d)))) 0 (λ e. c .if1 .taken (c .before .layout-refusal .ensures ∙ none-before 5 (signalRules (now (given .d))) e)))
 
 inner-refusal-requires : tie.Need-inner-refusal-requires
 inner-refusal-requires c κs = omega (arith, signal-laid (now (c .before .before .before .args .d)) (sym (c .before .layout-refusal .ensures) ∙ c .if1 .left))

@@ -1,21 +1,18 @@
 -- The Signal's `layout_refusal` meets its contract: at each return the tests on the way say that its rule is the first broken one, or that
 -- none is.
 -- Assumes nothing.
-use Prim.Native.Nat.{ℕ, _+_, _-_, _/_}
-use mathlib.Core.List.{_++_}
+use Prim.Native.Nat.{ℕ, _+_, _/_}
 use mathlib.Core.Bool.{not}
 use mathlib.Core.Path.{sym, ap, _∙_}
 use lib.Dec.{eqb}
 use lib.ListN.{length}
 use denote.Ref.{now}
 use native.Mathlib.Omega.{arith}
-use borrow.Author.Tests.{eqb-true, not-false}
 use borrow.Author.Needs.{needs}
-use Rattle.wire.specs.First.{first}
 use Rattle.wire.specs.Bytes.{num}
-use Rattle.pdu.specs.Records.{signalOf, filled}
-use Rattle.pdu.specs.Reading.{wrongBits, networkRules, bodyRules, signalRules}
-use Rattle.pdu.proofs.ReadingLaws.{differs, agrees, right-length, right-bits}
+use Rattle.pdu.specs.Records.{filled}
+use Rattle.pdu.specs.Reading.{wrongBits, signalRules}
+use Rattle.pdu.proofs.ReadingLaws.{differs, agrees, right-length}
 use Rattle.pdu.proofs.signal_reader.layout_refusal.Statement.{statement}
 use Rattle.pdu.proofs.signal_reader.layout_refusal.Tie as tie
 
@@ -45,10 +42,11 @@ u16-at-requires-2 c κs = omega (arith, right-length 32 (now (c .before .before 
 returns-3 : tie.Need-returns-3
 unfolding signalRules
 returns-3 c =
+    let given = c .before .before .before .before .before .before .before .args in
     rw (
       sym (c .before .before .before .before .before .wrong-length .ensures) ∙ c .before .before .before .before .if1 .left,
-      agrees (num 2 20 (now (c .before .before .before .before .before .before .before .args .d)) / 16384) 1 (sym (ap (λ (n : ℕ). n / 16384) (c .before .before .before .u16-at .ensures)) ∙ c .before .before .if2 .left),
-      differs (num 2 22 (now (c .before .before .before .before .before .before .before .args .d))) 100 (λ e. c .if3 .taken (c .before .u16-at2 .ensures ∙ e)),
+      agrees (num 2 20 (now (given .d)) / 16384) 1 (sym (ap (λ (n : ℕ). n / 16384) (c .before .before .before .u16-at .ensures)) ∙ c .before .before .if2 .left),
+      differs (num 2 22 (now (given .d))) 100 (λ e. c .if3 .taken (c .before .u16-at2 .ensures ∙ e)),
     )
 
 u16-at-requires-3 : tie.Need-u16-at-requires-3
@@ -72,33 +70,36 @@ no-requires c κs = search needs
 returns-4 : tie.Need-returns-4
 unfolding signalRules
 returns-4 c =
+    let given = c .before .before .before .before .before .before .before .before .before .before .before .before .args in
     rw (
       sym (c .before .before .before .before .before .before .before .before .before .before .wrong-length .ensures) ∙ c .before .before .before .before .before .before .before .before .before .if1 .left,
-      agrees (num 2 20 (now (c .before .before .before .before .before .before .before .before .before .before .before .before .args .d)) / 16384) 1 (sym (ap (λ (n : ℕ). n / 16384) (c .before .before .before .before .before .before .before .before .u16-at .ensures)) ∙ c .before .before .before .before .before .before .before .if2 .left),
-      agrees (num 2 22 (now (c .before .before .before .before .before .before .before .before .before .before .before .before .args .d))) 100 (sym (c .before .before .before .before .before .before .u16-at2 .ensures) ∙ c .before .before .before .before .before .if3 .left),
+      agrees (num 2 20 (now (given .d)) / 16384) 1 (sym (ap (λ (n : ℕ). n / 16384) (c .before .before .before .before .before .before .before .before .u16-at .ensures)) ∙ c .before .before .before .before .before .before .before .if2 .left),
+      agrees (num 2 22 (now (given .d))) 100 (sym (c .before .before .before .before .before .before .u16-at2 .ensures) ∙ c .before .before .before .before .before .if3 .left),
       sym (c .before .before .before .wrong-bits .ensures ∙ ap wrongBits (c .before .before .before .before .u16-at3 .ensures)) ∙ c .if4 .taken,
     )
 
 returns-5 : tie.Need-returns-5
 unfolding signalRules
 returns-5 c =
+    let given = c .before .before .before .before .before .before .before .before .before .before .before .before .before .args in
     rw (
       sym (c .before .before .before .before .before .before .before .before .before .before .before .wrong-length .ensures) ∙ c .before .before .before .before .before .before .before .before .before .before .if1 .left,
-      agrees (num 2 20 (now (c .before .before .before .before .before .before .before .before .before .before .before .before .before .args .d)) / 16384) 1 (sym (ap (λ (n : ℕ). n / 16384) (c .before .before .before .before .before .before .before .before .before .u16-at .ensures)) ∙ c .before .before .before .before .before .before .before .before .if2 .left),
-      agrees (num 2 22 (now (c .before .before .before .before .before .before .before .before .before .before .before .before .before .args .d))) 100 (sym (c .before .before .before .before .before .before .before .u16-at2 .ensures) ∙ c .before .before .before .before .before .before .if3 .left),
+      agrees (num 2 20 (now (given .d)) / 16384) 1 (sym (ap (λ (n : ℕ). n / 16384) (c .before .before .before .before .before .before .before .before .before .u16-at .ensures)) ∙ c .before .before .before .before .before .before .before .before .if2 .left),
+      agrees (num 2 22 (now (given .d))) 100 (sym (c .before .before .before .before .before .before .before .u16-at2 .ensures) ∙ c .before .before .before .before .before .before .if3 .left),
       sym (c .before .before .before .before .wrong-bits .ensures ∙ ap wrongBits (c .before .before .before .before .before .u16-at3 .ensures)) ∙ c .before .if4 .left,
-      sym (c .before .before .no .ensures ∙ ap (λ (n : ℕ). not (eqb (length (now (c .before .before .before .before .before .before .before .before .before .before .before .before .before .args .d))) n)) (c .before .before .before .filled-size .ensures ∙ ap (λ (n : ℕ). filled (32 + n / 8)) (c .before .before .before .before .before .u16-at3 .ensures))) ∙ c .if5 .taken,
+      sym (c .before .before .no .ensures ∙ ap (λ (n : ℕ). not (eqb (length (now (given .d))) n)) (c .before .before .before .filled-size .ensures ∙ ap (λ (n : ℕ). filled (32 + n / 8)) (c .before .before .before .before .before .u16-at3 .ensures))) ∙ c .if5 .taken,
     )
 
 returns-6 : tie.Need-returns-6
 unfolding signalRules
 returns-6 c =
+    let given = c .before .before .before .before .before .before .before .before .before .before .before .before .before .args in
     rw (
       sym (c .before .before .before .before .before .before .before .before .before .before .before .wrong-length .ensures) ∙ c .before .before .before .before .before .before .before .before .before .before .if1 .left,
-      agrees (num 2 20 (now (c .before .before .before .before .before .before .before .before .before .before .before .before .before .args .d)) / 16384) 1 (sym (ap (λ (n : ℕ). n / 16384) (c .before .before .before .before .before .before .before .before .before .u16-at .ensures)) ∙ c .before .before .before .before .before .before .before .before .if2 .left),
-      agrees (num 2 22 (now (c .before .before .before .before .before .before .before .before .before .before .before .before .before .args .d))) 100 (sym (c .before .before .before .before .before .before .before .u16-at2 .ensures) ∙ c .before .before .before .before .before .before .if3 .left),
+      agrees (num 2 20 (now (given .d)) / 16384) 1 (sym (ap (λ (n : ℕ). n / 16384) (c .before .before .before .before .before .before .before .before .before .u16-at .ensures)) ∙ c .before .before .before .before .before .before .before .before .if2 .left),
+      agrees (num 2 22 (now (given .d))) 100 (sym (c .before .before .before .before .before .before .before .u16-at2 .ensures) ∙ c .before .before .before .before .before .before .if3 .left),
       sym (c .before .before .before .before .wrong-bits .ensures ∙ ap wrongBits (c .before .before .before .before .before .u16-at3 .ensures)) ∙ c .before .if4 .left,
-      sym (c .before .before .no .ensures ∙ ap (λ (n : ℕ). not (eqb (length (now (c .before .before .before .before .before .before .before .before .before .before .before .before .before .args .d))) n)) (c .before .before .before .filled-size .ensures ∙ ap (λ (n : ℕ). filled (32 + n / 8)) (c .before .before .before .before .before .u16-at3 .ensures))) ∙ c .if5 .left,
+      sym (c .before .before .no .ensures ∙ ap (λ (n : ℕ). not (eqb (length (now (given .d))) n)) (c .before .before .before .filled-size .ensures ∙ ap (λ (n : ℕ). filled (32 + n / 8)) (c .before .before .before .before .before .u16-at3 .ensures))) ∙ c .if5 .left,
     )
 
 pub layout-refusal-spec : {M : Type 1} → statement M

@@ -16,9 +16,10 @@ returns c =
 returns-2 : tie.Need-returns-2
 unfolding networkRules
 returns-2 c =
+    let given = c .before .before .before .before .args in
     rw (
-      le-ltb 511 (c .before .before .before .before .args .n .npg) (c .before .before .if1 .left),
-      lt-ltb 127 (c .before .before .before .before .args .n .net) (c .if2 .taken),
+      le-ltb 511 (given .n .npg) (c .before .before .if1 .left),
+      lt-ltb 127 (given .n .net) (c .if2 .taken),
     )
 
 wrong-security-requires : tie.Need-wrong-security-requires
@@ -27,9 +28,10 @@ wrong-security-requires c κs = search needs
 returns-3 : tie.Need-returns-3
 unfolding networkRules
 returns-3 c =
+    let given = c .before .before .before .before .before .before .args in
     rw (
-      le-ltb 511 (c .before .before .before .before .before .before .args .n .npg) (c .before .before .before .before .if1 .left),
-      le-ltb 127 (c .before .before .before .before .before .before .args .n .net) (c .before .before .if2 .left),
+      le-ltb 511 (given .n .npg) (c .before .before .before .before .if1 .left),
+      le-ltb 127 (given .n .net) (c .before .before .if2 .left),
       sym (c .before .wrong-security .ensures) ∙ c .if3 .taken,
     )
 
@@ -39,9 +41,10 @@ wrong-security-requires-2 c κs = search needs
 returns-4 : tie.Need-returns-4
 unfolding networkRules
 returns-4 c =
+    let given = c .before .before .before .before .before .before .before .before .args in
     rw (
-      le-ltb 511 (c .before .before .before .before .before .before .before .before .args .n .npg) (c .before .before .before .before .before .before .if1 .left),
-      le-ltb 127 (c .before .before .before .before .before .before .before .before .args .n .net) (c .before .before .before .before .if2 .left),
+      le-ltb 511 (given .n .npg) (c .before .before .before .before .before .before .if1 .left),
+      le-ltb 127 (given .n .net) (c .before .before .before .before .if2 .left),
       sym (c .before .before .before .wrong-security .ensures) ∙ c .before .before .if3 .left,
       sym (c .before .wrong-security2 .ensures) ∙ c .if4 .taken,
     )
@@ -49,37 +52,40 @@ returns-4 c =
 returns-5 : tie.Need-returns-5
 unfolding networkRules
 returns-5 c =
+    let given = c .before .before .before .before .before .before .before .before .before .before .args in
     rw (
-      le-ltb 511 (c .before .before .before .before .before .before .before .before .before .before .args .n .npg) (c .before .before .before .before .before .before .before .before .if1 .left),
-      le-ltb 127 (c .before .before .before .before .before .before .before .before .before .before .args .n .net) (c .before .before .before .before .before .before .if2 .left),
+      le-ltb 511 (given .n .npg) (c .before .before .before .before .before .before .before .before .if1 .left),
+      le-ltb 127 (given .n .net) (c .before .before .before .before .before .before .if2 .left),
       sym (c .before .before .before .before .before .wrong-security .ensures) ∙ c .before .before .before .before .if3 .left,
       sym (c .before .before .before .wrong-security2 .ensures) ∙ c .before .before .if4 .left,
-      lt-ltb 7 (c .before .before .before .before .before .before .before .before .before .before .args .n .«message_type») (c .if5 .taken),
+      lt-ltb 7 (given .n .«message_type») (c .if5 .taken),
     )
 
 returns-6 : tie.Need-returns-6
 unfolding networkRules
 returns-6 c =
+    let given = c .before .before .before .before .before .before .before .before .before .before .before .before .args in
     rw (
-      le-ltb 511 (c .before .before .before .before .before .before .before .before .before .before .before .before .args .n .npg) (c .before .before .before .before .before .before .before .before .before .before .if1 .left),
-      le-ltb 127 (c .before .before .before .before .before .before .before .before .before .before .before .before .args .n .net) (c .before .before .before .before .before .before .before .before .if2 .left),
+      le-ltb 511 (given .n .npg) (c .before .before .before .before .before .before .before .before .before .before .if1 .left),
+      le-ltb 127 (given .n .net) (c .before .before .before .before .before .before .before .before .if2 .left),
       sym (c .before .before .before .before .before .before .before .wrong-security .ensures) ∙ c .before .before .before .before .before .before .if3 .left,
       sym (c .before .before .before .before .before .wrong-security2 .ensures) ∙ c .before .before .before .before .if4 .left,
-      le-ltb 7 (c .before .before .before .before .before .before .before .before .before .before .before .before .args .n .«message_type») (c .before .before .if5 .left),
-      lt-ltb 98303 (c .before .before .before .before .before .before .before .before .before .before .before .before .args .n .slot) (c .if6 .taken),
+      le-ltb 7 (given .n .«message_type») (c .before .before .if5 .left),
+      lt-ltb 98303 (given .n .slot) (c .if6 .taken),
     )
 
 returns-7 : tie.Need-returns-7
 unfolding networkRules
 returns-7 c =
+    let given = c .before .before .before .before .before .before .before .before .before .before .before .before .before .before .args in
     rw (
-      le-ltb 511 (c .before .before .before .before .before .before .before .before .before .before .before .before .before .before .args .n .npg) (c .before .before .before .before .before .before .before .before .before .before .before .before .if1 .left),
-      le-ltb 127 (c .before .before .before .before .before .before .before .before .before .before .before .before .before .before .args .n .net) (c .before .before .before .before .before .before .before .before .before .before .if2 .left),
+      le-ltb 511 (given .n .npg) (c .before .before .before .before .before .before .before .before .before .before .before .before .if1 .left),
+      le-ltb 127 (given .n .net) (c .before .before .before .before .before .before .before .before .before .before .if2 .left),
       sym (c .before .before .before .before .before .before .before .before .before .wrong-security .ensures) ∙ c .before .before .before .before .before .before .before .before .if3 .left,
       sym (c .before .before .before .before .before .before .before .wrong-security2 .ensures) ∙ c .before .before .before .before .before .before .if4 .left,
-      le-ltb 7 (c .before .before .before .before .before .before .before .before .before .before .before .before .before .before .args .n .«message_type») (c .before .before .before .before .if5 .left),
-      le-ltb 98303 (c .before .before .before .before .before .before .before .before .before .before .before .before .before .before .args .n .slot) (c .before .before .if6 .left),
-      lt-ltb 112 (c .before .before .before .before .before .before .before .before .before .before .before .before .before .before .args .n .epoch) (c .if7 .taken),
+      le-ltb 7 (given .n .«message_type») (c .before .before .before .before .if5 .left),
+      le-ltb 98303 (given .n .slot) (c .before .before .if6 .left),
+      lt-ltb 112 (given .n .epoch) (c .if7 .taken),
     )
 
 both-requires : tie.Need-both-requires
@@ -88,28 +94,30 @@ both-requires c κs = search needs
 returns-8 : tie.Need-returns-8
 unfolding networkRules
 returns-8 c =
+    let given = c .before .before .before .before .before .before .before .before .before .before .before .before .before .before .before .before .before .before .args in
     rw (
-      le-ltb 511 (c .before .before .before .before .before .before .before .before .before .before .before .before .before .before .before .before .before .before .args .n .npg) (c .before .before .before .before .before .before .before .before .before .before .before .before .before .before .before .before .if1 .left),
-      le-ltb 127 (c .before .before .before .before .before .before .before .before .before .before .before .before .before .before .before .before .before .before .args .n .net) (c .before .before .before .before .before .before .before .before .before .before .before .before .before .before .if2 .left),
+      le-ltb 511 (given .n .npg) (c .before .before .before .before .before .before .before .before .before .before .before .before .before .before .before .before .if1 .left),
+      le-ltb 127 (given .n .net) (c .before .before .before .before .before .before .before .before .before .before .before .before .before .before .if2 .left),
       sym (c .before .before .before .before .before .before .before .before .before .before .before .before .before .wrong-security .ensures) ∙ c .before .before .before .before .before .before .before .before .before .before .before .before .if3 .left,
       sym (c .before .before .before .before .before .before .before .before .before .before .before .wrong-security2 .ensures) ∙ c .before .before .before .before .before .before .before .before .before .before .if4 .left,
-      le-ltb 7 (c .before .before .before .before .before .before .before .before .before .before .before .before .before .before .before .before .before .before .args .n .«message_type») (c .before .before .before .before .before .before .before .before .if5 .left),
-      le-ltb 98303 (c .before .before .before .before .before .before .before .before .before .before .before .before .before .before .before .before .before .before .args .n .slot) (c .before .before .before .before .before .before .if6 .left),
-      le-ltb 112 (c .before .before .before .before .before .before .before .before .before .before .before .before .before .before .before .before .before .before .args .n .epoch) (c .before .before .before .before .if7 .left),
+      le-ltb 7 (given .n .«message_type») (c .before .before .before .before .before .before .before .before .if5 .left),
+      le-ltb 98303 (given .n .slot) (c .before .before .before .before .before .before .if6 .left),
+      le-ltb 112 (given .n .epoch) (c .before .before .before .before .if7 .left),
       sym (c .before .both .ensures) ∙ c .if8 .taken,
     )
 
 returns-9 : tie.Need-returns-9
 unfolding networkRules
 returns-9 c =
+    let given = c .before .before .before .before .before .before .before .before .before .before .before .before .before .before .before .before .before .before .args in
     rw (
-      le-ltb 511 (c .before .before .before .before .before .before .before .before .before .before .before .before .before .before .before .before .before .before .args .n .npg) (c .before .before .before .before .before .before .before .before .before .before .before .before .before .before .before .before .if1 .left),
-      le-ltb 127 (c .before .before .before .before .before .before .before .before .before .before .before .before .before .before .before .before .before .before .args .n .net) (c .before .before .before .before .before .before .before .before .before .before .before .before .before .before .if2 .left),
+      le-ltb 511 (given .n .npg) (c .before .before .before .before .before .before .before .before .before .before .before .before .before .before .before .before .if1 .left),
+      le-ltb 127 (given .n .net) (c .before .before .before .before .before .before .before .before .before .before .before .before .before .before .if2 .left),
       sym (c .before .before .before .before .before .before .before .before .before .before .before .before .before .wrong-security .ensures) ∙ c .before .before .before .before .before .before .before .before .before .before .before .before .if3 .left,
       sym (c .before .before .before .before .before .before .before .before .before .before .before .wrong-security2 .ensures) ∙ c .before .before .before .before .before .before .before .before .before .before .if4 .left,
-      le-ltb 7 (c .before .before .before .before .before .before .before .before .before .before .before .before .before .before .before .before .before .before .args .n .«message_type») (c .before .before .before .before .before .before .before .before .if5 .left),
-      le-ltb 98303 (c .before .before .before .before .before .before .before .before .before .before .before .before .before .before .before .before .before .before .args .n .slot) (c .before .before .before .before .before .before .if6 .left),
-      le-ltb 112 (c .before .before .before .before .before .before .before .before .before .before .before .before .before .before .before .before .before .before .args .n .epoch) (c .before .before .before .before .if7 .left),
+      le-ltb 7 (given .n .«message_type») (c .before .before .before .before .before .before .before .before .if5 .left),
+      le-ltb 98303 (given .n .slot) (c .before .before .before .before .before .before .if6 .left),
+      le-ltb 112 (given .n .epoch) (c .before .before .before .before .if7 .left),
       sym (c .before .both .ensures) ∙ c .if8 .left,
     )
 

@@ -13,14 +13,18 @@ network-refusal-requires : tie.Need-network-refusal-requires
 network-refusal-requires c κs = search needs
 
 returns : tie.Need-returns
-returns c = c .before .network-refusal .ensures ∙ sym (first-here (networkRules (c .before .before .before .before .args .s .network)) (bodyRules (c .before .before .before .before .args .s .network .«message_type») (length (now (c .before .before .before .before .args .body)))) (λ e. c .if1 .taken (c .before .network-refusal .ensures ∙ e)))
+returns c =
+    let given = c .before .before .before .before .args in
+    c .before .network-refusal .ensures ∙ sym (first-here (networkRules (given .s .network)) (bodyRules (given .s .network .«message_type») (length (now (given .body)))) (λ e. c .if1 .taken (c .before .network-refusal .ensures ∙ e)))
 
 body-refusal-requires : tie.Need-body-refusal-requires
 body-refusal-requires c κs = search needs
 
 returns-2 : tie.Need-returns-2
 unfolding networkRules
-returns-2 c = c .body-refusal .ensures ∙ sym (first-next (networkRules (c .before .before .before .before .before .args .s .network)) (bodyRules (c .before .before .before .before .before .args .s .network .«message_type») (length (now (c .before .before .before .before .before .args .body)))) refl (sym (c .before .before .network-refusal .ensures) ∙ c .before .if1 .left))
+returns-2 c =
+    let given = c .before .before .before .before .before .args in
+    c .body-refusal .ensures ∙ sym (first-next (networkRules (given .s .network)) (bodyRules (given .s .network .«message_type») (length (now (given .body)))) refl (sym (c .before .before .network-refusal .ensures) ∙ c .before .if1 .left))
 
 pub inner-refusal-spec : {M : Type 1} → statement M
 inner-refusal-spec =

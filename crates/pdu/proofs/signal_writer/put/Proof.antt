@@ -39,14 +39,15 @@ same-length c = search needs
 returns : tie.Need-returns
 unfolding signalBytes signalHead
 returns c =
+    let given = c .before .before .before .before .before .before .before .before .before .before .before .before .before .before .before .args in
     rw (
       c .before .before .zero .ensures,
       c .before .before .before .before .before .before .copy .ensures,
       c .before .before .before .before .before .before .before .before .before .before .put-head .ensures,
       c .before .before .before .before .before .before .before .before .before .before .before .before .signal-size .ensures,
     )
-    (splice-append 52 (now (c .before .before .before .before .before .before .before .before .before .before .before .before .before .before .before .args .body)) (replicate (fillOf (length (now (c .before .before .before .before .before .before .before .before .before .before .before .before .before .before .before .args .body)))) 0) (splice 0 (signalHead (c .before .before .before .before .before .before .before .before .before .before .before .before .before .before .before .args .s) (length (now (c .before .before .before .before .before .before .before .before .before .before .before .before .before .before .before .args .body)))) (now (c .before .before .before .before .before .before .before .before .before .before .before .before .before .before .before .args .out)))
-    ∙ splice-append 0 (signalHead (c .before .before .before .before .before .before .before .before .before .before .before .before .before .before .before .args .s) (length (now (c .before .before .before .before .before .before .before .before .before .before .before .before .before .before .before .args .body)))) ((now (c .before .before .before .before .before .before .before .before .before .before .before .before .before .before .before .args .body)) ++ (replicate (fillOf (length (now (c .before .before .before .before .before .before .before .before .before .before .before .before .before .before .before .args .body)))) 0)) (now (c .before .before .before .before .before .before .before .before .before .before .before .before .before .before .before .args .out)))
+    (splice-append 52 (now (given .body)) (replicate (fillOf (length (now (given .body)))) 0) (splice 0 (signalHead (given .s) (length (now (given .body)))) (now (given .out)))
+    ∙ splice-append 0 (signalHead (given .s) (length (now (given .body)))) ((now (given .body)) ++ (replicate (fillOf (length (now (given .body)))) 0)) (now (given .out)))
 
 pub put-spec : {M : Type 1} → statement M
 put-spec =

@@ -44,32 +44,37 @@ inner-refusal-requires c κs = search needs
 returns-3 : tie.Need-returns-3
 unfolding signalWriting
 returns-3 c =
+    let given = c .before .before .before .before .before .before .before .args in
     rw (
       sym (c .before .before .before .before .before .wrong-version .ensures) ∙ c .before .before .before .before .if1 .left,
-      le-ltb 16383 (c .before .before .before .before .before .before .before .args .s .encoding) (c .before .before .if2 .left),
-    ) (c .before .inner-refusal .ensures ∙ sym (first-here ((networkRules (c .before .before .before .before .before .before .before .args .s .network)) ++ (bodyRules (c .before .before .before .before .before .before .before .args .s .network .«message_type») (length (now (c .before .before .before .before .before .before .before .args .body))))) ((16 given-when ltb (c .before .before .before .before .before .before .before .args .room) (signalSize (length (now (c .before .before .before .before .before .before .before .args .body))))) ∷ []) (λ e. c .if3 .taken (c .before .inner-refusal .ensures ∙ e))))
+      le-ltb 16383 (given .s .encoding) (c .before .before .if2 .left),
+    ) (c .before .inner-refusal .ensures ∙ sym (first-here ((networkRules (given .s .network)) ++ (bodyRules (given .s .network .«message_type») (length (now (given .body))))) ((16 given-when ltb (given .room) (signalSize (length (now (given .body))))) ∷ []) (λ e. c .if3 .taken (c .before .inner-refusal .ensures ∙ e))))
 
 signal-size-requires : tie.Need-signal-size-requires
-signal-size-requires c κs = omega (arith, body-short (c .before .before .before .before .before .before .before .args .s .network .«message_type») (length (now (c .before .before .before .before .before .before .before .args .body))) (inner-body (c .before .before .before .before .before .before .before .args .s .network) (c .before .before .before .before .before .before .before .args .s .network .«message_type») (length (now (c .before .before .before .before .before .before .before .args .body))) (sym (c .before .inner-refusal .ensures) ∙ c .if3 .left)))
+signal-size-requires c κs =
+    let given = c .before .before .before .before .before .before .before .args in
+    omega (arith, body-short (given .s .network .«message_type») (length (now (given .body))) (inner-body (given .s .network) (given .s .network .«message_type») (length (now (given .body))) (sym (c .before .inner-refusal .ensures) ∙ c .if3 .left)))
 
 returns-4 : tie.Need-returns-4
 unfolding signalWriting
 returns-4 c =
+    let given = c .before .before .before .before .before .before .before .before .before .args in
     rw (
       sym (c .before .before .before .before .before .before .before .wrong-version .ensures) ∙ c .before .before .before .before .before .before .if1 .left,
-      le-ltb 16383 (c .before .before .before .before .before .before .before .before .before .args .s .encoding) (c .before .before .before .before .if2 .left),
-      first-next ((networkRules (c .before .before .before .before .before .before .before .before .before .args .s .network)) ++ (bodyRules (c .before .before .before .before .before .before .before .before .before .args .s .network .«message_type») (length (now (c .before .before .before .before .before .before .before .before .before .args .body))))) ((16 given-when ltb (c .before .before .before .before .before .before .before .before .before .args .room) (signalSize (length (now (c .before .before .before .before .before .before .before .before .before .args .body))))) ∷ []) (inner-numbered (c .before .before .before .before .before .before .before .before .before .args .s .network) (c .before .before .before .before .before .before .before .before .before .args .s .network .«message_type») (length (now (c .before .before .before .before .before .before .before .before .before .args .body)))) (sym (c .before .before .before .inner-refusal .ensures) ∙ c .before .before .if3 .left),
-      lt-ltb (c .before .before .before .before .before .before .before .before .before .args .room) (signalSize (length (now (c .before .before .before .before .before .before .before .before .before .args .body)))) (rw (c .before .signal-size .ensures) at (c .if4 .taken)),
+      le-ltb 16383 (given .s .encoding) (c .before .before .before .before .if2 .left),
+      first-next ((networkRules (given .s .network)) ++ (bodyRules (given .s .network .«message_type») (length (now (given .body))))) ((16 given-when ltb (given .room) (signalSize (length (now (given .body))))) ∷ []) (inner-numbered (given .s .network) (given .s .network .«message_type») (length (now (given .body)))) (sym (c .before .before .before .inner-refusal .ensures) ∙ c .before .before .if3 .left),
+      lt-ltb (given .room) (signalSize (length (now (given .body)))) (rw (c .before .signal-size .ensures) at (c .if4 .taken)),
     )
 
 returns-5 : tie.Need-returns-5
 unfolding signalWriting
 returns-5 c =
+    let given = c .before .before .before .before .before .before .before .before .before .args in
     rw (
       sym (c .before .before .before .before .before .before .before .wrong-version .ensures) ∙ c .before .before .before .before .before .before .if1 .left,
-      le-ltb 16383 (c .before .before .before .before .before .before .before .before .before .args .s .encoding) (c .before .before .before .before .if2 .left),
-      first-next ((networkRules (c .before .before .before .before .before .before .before .before .before .args .s .network)) ++ (bodyRules (c .before .before .before .before .before .before .before .before .before .args .s .network .«message_type») (length (now (c .before .before .before .before .before .before .before .before .before .args .body))))) ((16 given-when ltb (c .before .before .before .before .before .before .before .before .before .args .room) (signalSize (length (now (c .before .before .before .before .before .before .before .before .before .args .body))))) ∷ []) (inner-numbered (c .before .before .before .before .before .before .before .before .before .args .s .network) (c .before .before .before .before .before .before .before .before .before .args .s .network .«message_type») (length (now (c .before .before .before .before .before .before .before .before .before .args .body)))) (sym (c .before .before .before .inner-refusal .ensures) ∙ c .before .before .if3 .left),
-      le-ltb (c .before .before .before .before .before .before .before .before .before .args .room) (signalSize (length (now (c .before .before .before .before .before .before .before .before .before .args .body)))) (rw (c .before .signal-size .ensures) at (c .if4 .left)),
+      le-ltb 16383 (given .s .encoding) (c .before .before .before .before .if2 .left),
+      first-next ((networkRules (given .s .network)) ++ (bodyRules (given .s .network .«message_type») (length (now (given .body))))) ((16 given-when ltb (given .room) (signalSize (length (now (given .body))))) ∷ []) (inner-numbered (given .s .network) (given .s .network .«message_type») (length (now (given .body)))) (sym (c .before .before .before .inner-refusal .ensures) ∙ c .before .before .if3 .left),
+      le-ltb (given .room) (signalSize (length (now (given .body)))) (rw (c .before .signal-size .ensures) at (c .if4 .left)),
     )
 
 pub refusal-spec : {M : Type 1} → statement M

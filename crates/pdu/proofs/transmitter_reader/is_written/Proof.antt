@@ -21,8 +21,9 @@ layout-refusal-requires c κs = search needs
 
 returns : tie.Need-returns
 returns c =
+    let given = c .before .before .before .args in
     rw
-    (ne-eqb (first (transmitterRules (now (c .before .before .before .args .d)))) 0 (λ e. c .if1 .taken (c .before .layout-refusal .ensures ∙ none-before 5 (transmitterRules (now (c .before .before .before .args .d))) e)))
+    (ne-eqb (first (transmitterRules (now (given .d)))) 0 (λ e. c .if1 .taken (c .before .layout-refusal .ensures ∙ none-before 5 (transmitterRules (now (given .d))) e)))
 
 read-sync-requires : tie.Need-read-sync-requires
 read-sync-requires c κs = omega (arith, transmitter-laid (now (c .before .before .before .args .d)) (sym (c .before .layout-refusal .ensures) ∙ c .if1 .left))

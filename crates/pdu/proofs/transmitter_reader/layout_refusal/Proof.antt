@@ -50,33 +50,36 @@ u16-at-requires c κs = omega (arith, right-length 104 (now (c .before .before .
 returns-4 : tie.Need-returns-4
 unfolding transmitterRules
 returns-4 c =
+    let given = c .before .before .before .before .before .before .before .before .before .args in
     rw (
       sym (c .before .before .before .before .before .before .before .wrong-length .ensures) ∙ c .before .before .before .before .before .before .if1 .left,
       sym (c .before .before .before .before .before .wrong-fixed .ensures) ∙ c .before .before .before .before .if2 .left,
-      agrees (num 1 100 (now (c .before .before .before .before .before .before .before .before .before .args .d))) 8 (sym (c .before .before .before .u8-at .ensures) ∙ c .before .before .if3 .left),
-      differs (num 2 70 (now (c .before .before .before .before .before .before .before .before .before .args .d))) 0 (λ e. c .if4 .taken (c .before .u16-at .ensures ∙ e)),
+      agrees (num 1 100 (now (given .d))) 8 (sym (c .before .before .before .u8-at .ensures) ∙ c .before .before .if3 .left),
+      differs (num 2 70 (now (given .d))) 0 (λ e. c .if4 .taken (c .before .u16-at .ensures ∙ e)),
     )
 
 returns-5 : tie.Need-returns-5
 unfolding transmitterRules
 returns-5 c =
+    let given = c .before .before .before .before .before .before .before .before .before .before .args in
     rw (
       sym (c .before .before .before .before .before .before .before .before .wrong-length .ensures) ∙ c .before .before .before .before .before .before .before .if1 .left,
       sym (c .before .before .before .before .before .before .wrong-fixed .ensures) ∙ c .before .before .before .before .before .if2 .left,
-      agrees (num 1 100 (now (c .before .before .before .before .before .before .before .before .before .before .args .d))) 8 (sym (c .before .before .before .before .u8-at .ensures) ∙ c .before .before .before .if3 .left),
-      agrees (num 2 70 (now (c .before .before .before .before .before .before .before .before .before .before .args .d))) 0 (sym (c .before .before .u16-at .ensures) ∙ c .before .if4 .left),
-      differs (length (now (c .before .before .before .before .before .before .before .before .before .before .args .d))) 112 (c .if5 .taken),
+      agrees (num 1 100 (now (given .d))) 8 (sym (c .before .before .before .before .u8-at .ensures) ∙ c .before .before .before .if3 .left),
+      agrees (num 2 70 (now (given .d))) 0 (sym (c .before .before .u16-at .ensures) ∙ c .before .if4 .left),
+      differs (length (now (given .d))) 112 (c .if5 .taken),
     )
 
 returns-6 : tie.Need-returns-6
 unfolding transmitterRules
 returns-6 c =
+    let given = c .before .before .before .before .before .before .before .before .before .before .args in
     rw (
       sym (c .before .before .before .before .before .before .before .before .wrong-length .ensures) ∙ c .before .before .before .before .before .before .before .if1 .left,
       sym (c .before .before .before .before .before .before .wrong-fixed .ensures) ∙ c .before .before .before .before .before .if2 .left,
-      agrees (num 1 100 (now (c .before .before .before .before .before .before .before .before .before .before .args .d))) 8 (sym (c .before .before .before .before .u8-at .ensures) ∙ c .before .before .before .if3 .left),
-      agrees (num 2 70 (now (c .before .before .before .before .before .before .before .before .before .before .args .d))) 0 (sym (c .before .before .u16-at .ensures) ∙ c .before .if4 .left),
-      agrees (length (now (c .before .before .before .before .before .before .before .before .before .before .args .d))) 112 (c .if5 .left),
+      agrees (num 1 100 (now (given .d))) 8 (sym (c .before .before .before .before .u8-at .ensures) ∙ c .before .before .before .if3 .left),
+      agrees (num 2 70 (now (given .d))) 0 (sym (c .before .before .u16-at .ensures) ∙ c .before .if4 .left),
+      agrees (length (now (given .d))) 112 (c .if5 .left),
     )
 
 pub layout-refusal-spec : {M : Type 1} → statement M

@@ -53,9 +53,10 @@ no-requires c κs = search needs
 returns : tie.Need-returns
 unfolding wrongFixed
 returns c =
+    let given = c .before .before .before .before .before .before .before .before .before .args in
     rw (c .no .ensures, c .before .both3 .ensures, c .before .before .u16-at .ensures, c .before .before .before .both2 .ensures, c .before .before .before .before .u32-at .ensures, c .before .before .before .before .before .both .ensures, c .before .before .before .before .before .before .u8-at2 .ensures, c .before .before .before .before .before .before .before .u8-at .ensures)
-    (ap (λ (b : Bool). not (b && eqb (num 2 94 (now (c .before .before .before .before .before .before .before .before .before .args .d))) Numbers.system))
-    (in-a-row (eqb (num 1 24 (now (c .before .before .before .before .before .before .before .before .before .args .d))) Numbers.category && eqb (num 1 29 (now (c .before .before .before .before .before .before .before .before .before .args .d))) Numbers.inputSource) (num 4 90 (now (c .before .before .before .before .before .before .before .before .before .args .d))) (num 2 90 (now (c .before .before .before .before .before .before .before .before .before .args .d))) (num 2 92 (now (c .before .before .before .before .before .before .before .before .before .args .d))) Numbers.major Numbers.detail (omega arith) (num-lt 2 92 (now (c .before .before .before .before .before .before .before .before .before .args .d)) (λ i. omega (arith, c .before .before .before .before .before .before .before .before .shared-slice-known .given i))) (omega arith)))
+    (ap (λ (b : Bool). not (b && eqb (num 2 94 (now (given .d))) Numbers.system))
+    (in-a-row (eqb (num 1 24 (now (given .d))) Numbers.category && eqb (num 1 29 (now (given .d))) Numbers.inputSource) (num 4 90 (now (given .d))) (num 2 90 (now (given .d))) (num 2 92 (now (given .d))) Numbers.major Numbers.detail (omega arith) (num-lt 2 92 (now (given .d)) (λ i. omega (arith, c .before .before .before .before .before .before .before .before .shared-slice-known .given i))) (omega arith)))
 
 pub wrong-fixed-spec : {M : Type 1} → statement M
 wrong-fixed-spec =

@@ -3,7 +3,6 @@
 -- Assumes nothing.
 use Prim.Native.Nat.{ℕ, _<_}
 use mathlib.Core.Bool.{Bool, true, false, cond, not, _&&_}
-use mathlib.Core.List.{List}
 use mathlib.Core.Path.{_≡_, refl, sym, ap, ap₂, _∙_}
 use lib.Dec.{eqb}
 use denote.Ref.{now}
@@ -11,7 +10,7 @@ use native.Mathlib.Omega.{arith}
 use borrow.Author.Tests.{ne-eqb}
 use borrow.Author.Needs.{needs}
 use Rattle.pdu.proofs.ReadingLaws.{part-rest}
-use Rattle.pdu.specs.Writing.{inWrittenForm}
+use Rattle.pdu.specs.Writing.{inWrittenForm, readingWritten}
 use Rattle.pdu.specs.Reading.{reading}
 use Rattle.pdu.specs.declared.Reading.{Reading}
 use Rattle.pdu.specs.declared.Reading.the-variants.{Refused}
@@ -21,7 +20,7 @@ use Rattle.trunk.proofs.records.wrong_carried.Statement.{statement}
 use Rattle.trunk.proofs.records.wrong_carried.Tie as tie
 
 -- a byte is the kind of what is read only in written form exactly if that is in written form and has this kind
-carried-kind : (written : Bool) (a : Reading) (kind : ℕ) → kind < noKind → eqb (kindOf (cond written a (Refused 0))) kind ≡ (written && eqb (kindOf a) kind)
+carried-kind : (written : Bool) (a : Reading) (kind : ℕ) → kind < noKind → eqb (kindOf (cond written a (Refused 22))) kind ≡ (written && eqb (kindOf a) kind)
 carried-kind true a kind h = refl
 carried-kind false a kind h = ne-eqb noKind kind (λ e. omega arith)
 
@@ -61,11 +60,12 @@ no-requires c κs = search needs
 returns-2 : tie.Need-returns-2
 unfolding wrongCarried
 returns-2 c =
+    let given = c .before .before .before .before .before .before .before .before .args in
     rw (sym (c .before .before .before .before .before .before .is-reply .ensures) ∙ c .before .before .before .before .before .if1 .left)
     (c .no .ensures
     ∙ ap not
-    (ap₂ eqb (c .before .kind-of .ensures ∙ ap kindOf (c .before .before .read-written .ensures ∙ ap (λ (d : List ℕ). cond (inWrittenForm d) (reading d) (Refused 0)) (part-rest 5 (now (c .before .before .before .before .before .before .before .before .args .r))))) (c .before .before .before .before .u8-at .ensures)
-    ∙ carried-kind (inWrittenForm (carriedIn (now (c .before .before .before .before .before .before .before .before .args .r)))) (reading (carriedIn (now (c .before .before .before .before .before .before .before .before .args .r)))) (kindIn (now (c .before .before .before .before .before .before .before .before .args .r))) (omega (arith, c .before .before .before .before .u8-at .ensures))))
+    (ap₂ eqb (c .before .kind-of .ensures ∙ ap kindOf (c .before .before .read-written .ensures ∙ ap readingWritten (part-rest 5 (now (given .r))))) (c .before .before .before .before .u8-at .ensures)
+    ∙ carried-kind (inWrittenForm (carriedIn (now (given .r)))) (reading (carriedIn (now (given .r)))) (kindIn (now (given .r))) (omega (arith, c .before .before .before .before .u8-at .ensures))))
 
 pub wrong-carried-spec : {M : Type 1} → statement M
 wrong-carried-spec =
