@@ -23,22 +23,18 @@ fn put_reply(reply: &mut [u8], count: u32)
 }
 
 // Whether a record with this number is the next.
-fn is_next(count: u32, number: u32) -> bool
-    ensures { λ r. ⌜ r ≡ isNext count number ⌝ }
+fn is_next(k: u32, number: u32) -> bool
+    ensures { λ r. ⌜ r ≡ isNext k number ⌝ }
 {
-    number == count
+    number == k
 }
 
 // The count after a record with this number.
-fn count_after(count: u32, number: u32) -> u32
+fn count_after(k: u32, number: u32) -> u32
     requires { ⌜ number < lastNumber ⌝ }
-    ensures { λ r. ⌜ r ≡ countAfter count number ⌝ }
+    ensures { λ r. ⌜ r ≡ countAfter k number ⌝ }
 {
-    if is_next(count, number) {
-        count + 1
-    } else {
-        count
-    }
+    if is_next(k, number) { k + 1 } else { k }
 }
 
 // Puts out a PDU and has the station hear it; the count after it is given.

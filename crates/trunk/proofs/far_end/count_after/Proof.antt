@@ -14,7 +14,7 @@ is-next-requires c κs = search needs
 add-result : tie.Need-add-result
 add-result c =
     let given = c .before .before .args in
-    let below = next-below (given .count) (given .number) (sym (c .before .is-next .ensures) ∙ c .if1 .taken) (c .before .before .pre) in
+    let below = next-below (given .k) (given .number) (sym (c .before .is-next .ensures) ∙ c .if1 .taken) (c .before .before .pre) in
     omega (arith, below)
 
 returns : tie.Need-returns
