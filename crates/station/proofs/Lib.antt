@@ -1,6 +1,7 @@
 -- Laws and theorems of the station that belong to no one function.
 pub mod ReaderLaws
 pub mod PlaceLaws
+pub mod PartLaws
 pub mod Table
 pub mod Changes
 pub mod InNet

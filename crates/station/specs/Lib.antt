@@ -2,5 +2,6 @@
 pub mod Numbers
 pub mod Units
 pub mod Hearing
+pub mod Parts
 pub mod Clock
 pub mod Runs

@@ -1,14 +1,16 @@
 // Hearing a Signal.
 ghost use mathlib.Core.Path.{_≡_};
-ghost use Prim.Native.Nat.{_<_};
+ghost use Prim.Native.Nat.{ℕ};
 ghost use Rattle.station.specs.Hearing.{otherId, labelled, messageOf, idAfter, stateAfter, afterJ00, heardUnit, isFine, hearMessage, hearSignal};
+ghost use Rattle.station.specs.Units.{keyOf, placeOf};
+ghost use Rattle.station.specs.Parts.{slot, partOf, putBack};
+ghost use Rattle.station.specs.declared.Station.{Station};
 ghost use Rattle.station.specs.declared.Message.the-variants.{NetEntry, Ppli, Other};
-use crate::Heard;
 use crate::Message;
+use crate::Outcome;
+use crate::Part;
 use crate::State;
-use crate::Station;
 use crate::Unit;
-use crate::places;
 use pdu::Signal;
 use pdu::Word;
 
@@ -84,39 +86,39 @@ fn state_after(both: bool, state: State) -> State
     }
 }
 
-// The station after a J0.0 from the sender u.
-fn after_j00(s: Station, u: Unit) -> Station
-    ensures { λ r. ⌜ r ≡ afterJ00 s u ⌝ }
+// The part after a J0.0 from its unit.
+fn after_j00(p: Part) -> Part
+    ensures { λ r. ⌜ ((s : Station) (i : ℕ) → p ≡ partOf s i → r ≡ partOf (afterJ00 s (p .unit)) i) ⌝ }
 {
-    let both = wire::both(s.level == COARSE_LEVEL, u.level == COARSE_LEVEL);
-    let state = s.state;
+    let sender = p.unit;
+    let both = wire::both(p.level == COARSE_LEVEL, sender.level == COARSE_LEVEL);
+    let state = p.state;
     let next = state_after(both, state);
-    let units = s.units;
-    Station {
-        level: s.level,
-        net: s.net,
-        id: id_after(s.id, u.id),
+    Part {
+        level: p.level,
+        net: p.net,
+        used: p.used,
+        id: id_after(p.id, sender.id),
         state: next,
-        clock: s.clock,
-        used: s.used,
-        units,
+        clock: p.clock,
+        place: p.place,
+        unit: sender,
     }
 }
 
-// A J0.0 from the sender in place i: 34 or 42.
-fn net_entry(s: Station, i: usize) -> Heard
-    requires { ⌜ i < 16 ⌝ }
-    ensures { λ r. ⌜ r ≡ hearMessage s i NetEntry ⌝ }
+// A J0.0 from the part's unit: 34 or 42.
+fn net_entry(p: Part) -> Outcome
+    ensures { λ r. ⌜ ((s : Station) (i : ℕ) → p ≡ partOf s i → putBack s r ≡ hearMessage s (slot i) NetEntry) ⌝ }
 {
-    let sender = s.units[i];
+    let sender = p.unit;
     if sender.state != crate::FINE {
-        return Heard {
-            station: s,
+        return Outcome {
+            part: p,
             answer: 34,
         };
     }
-    Heard {
-        station: after_j00(s, sender),
+    Outcome {
+        part: after_j00(p),
         answer: 42,
     }
 }
@@ -135,20 +137,21 @@ fn heard_unit(now: u64, u: Unit) -> Unit
     }
 }
 
-// A PPLI from the sender in place i: 34 or 43.
-fn ppli(s: Station, i: usize) -> Heard
-    requires { ⌜ i < 16 ⌝ }
-    ensures { λ r. ⌜ r ≡ hearMessage s i Ppli ⌝ }
+// A PPLI from the part's unit: 34 or 43.
+fn ppli(mut p: Part) -> Outcome
+    ensures { λ r. ⌜ ((s : Station) (i : ℕ) → p ≡ partOf s i → putBack s r ≡ hearMessage s (slot i) Ppli) ⌝ }
 {
-    let u = s.units[i];
+    let u = p.unit;
     if u.state != crate::FINE {
-        return Heard {
-            station: s,
+        return Outcome {
+            part: p,
             answer: 34,
         };
     }
-    Heard {
-        station: places::with_unit(s, i, heard_unit(s.clock, u)),
+    let unit = heard_unit(p.clock, u);
+    p.unit = unit;
+    Outcome {
+        part: p,
         answer: 43,
     }
 }
@@ -164,60 +167,57 @@ fn is_fine(state: State) -> bool
     }
 }
 
-// All else from the sender in place i: 35 or 44.
-fn other(s: Station, i: usize) -> Heard
-    requires { ⌜ i < 16 ⌝ }
-    ensures { λ r. ⌜ r ≡ hearMessage s i Other ⌝ }
+// All else from the part's unit: 35 or 44.
+fn other(p: Part) -> Outcome
+    ensures { λ r. ⌜ ((s : Station) (i : ℕ) → p ≡ partOf s i → putBack s r ≡ hearMessage s (slot i) Other) ⌝ }
 {
-    let u = s.units[i];
-    let state = s.state;
+    let u = p.unit;
+    let state = p.state;
     if wire::both(u.inside, is_fine(state)) {
-        return Heard {
-            station: s,
+        return Outcome {
+            part: p,
             answer: 44,
         };
     }
-    Heard {
-        station: s,
+    Outcome {
+        part: p,
         answer: 35,
     }
 }
 
-// A message that passed 31, 32 and 33, from the sender in place i.
-fn taken(s: Station, i: usize, m: Message) -> Heard
-    requires { ⌜ i < 16 ⌝ }
-    ensures { λ r. ⌜ r ≡ hearMessage s i m ⌝ }
+// A message that passed 31, 32 and 33, from the part's unit.
+fn taken(p: Part, m: Message) -> Outcome
+    ensures { λ r. ⌜ ((s : Station) (i : ℕ) → p ≡ partOf s i → putBack s r ≡ hearMessage s (slot i) m) ⌝ }
 {
     match m {
-        Message::NetEntry => net_entry(s, i),
-        Message::Ppli => ppli(s, i),
-        Message::Other => other(s, i),
+        Message::NetEntry => net_entry(p),
+        Message::Ppli => ppli(p),
+        Message::Other => other(p),
     }
 }
 
 // A Signal and the first word of its body: 31 to 35, or 42 to 44.
-pub(crate) fn signal(s: Station, g: Signal, word: Word) -> Heard
-    ensures { λ r. ⌜ r ≡ hearSignal s g word ⌝ }
+pub(crate) fn signal(p: Part, g: Signal, word: Word) -> Outcome
+    ensures { λ r. ⌜ ((s : Station) → p ≡ partOf s (placeOf s (keyOf (g .header))) → putBack s r ≡ hearSignal s g word) ⌝ }
 {
-    let i = places::place_of(s, crate::key_of(g.header));
-    if occupancy::PLACES <= i {
-        return Heard {
-            station: s,
+    if occupancy::PLACES <= p.place {
+        return Outcome {
+            part: p,
             answer: 31,
         };
     }
-    if g.network.net != s.net {
-        return Heard {
-            station: s,
+    if g.network.net != p.net {
+        return Outcome {
+            part: p,
             answer: 32,
         };
     }
-    let u = s.units[i];
-    if other_id(s.id, u.id) {
-        return Heard {
-            station: s,
+    let u = p.unit;
+    if other_id(p.id, u.id) {
+        return Outcome {
+            part: p,
             answer: 33,
         };
     }
-    taken(s, i, message(g.network.message_type, word))
+    taken(p, message(g.network.message_type, word))
 }

@@ -1,11 +1,13 @@
 // Hearing a Transmitter.
 ghost use mathlib.Core.Path.{_≡_};
-ghost use Prim.Native.Nat.{_<_};
+ghost use Prim.Native.Nat.{ℕ};
 ghost use Rattle.station.specs.Hearing.{newUnit, renewed, enter, renew, hearTransmitter};
-use crate::Heard;
-use crate::Station;
+ghost use Rattle.station.specs.Units.{keyOf, placeOf};
+ghost use Rattle.station.specs.Parts.{slot, partOf, putBack};
+ghost use Rattle.station.specs.declared.Station.{Station};
+use crate::Outcome;
+use crate::Part;
 use crate::Unit;
-use crate::places;
 use pdu::Transmitter;
 
 // The entry of a unit heard for the first time.
@@ -38,42 +40,47 @@ fn renewed_unit(u: Unit, t: Transmitter) -> Unit
 }
 
 // A Transmitter whose key is unknown.
-fn enter_unit(s: Station, t: Transmitter) -> Heard
-    ensures { λ r. ⌜ r ≡ enter s t ⌝ }
+fn enter_unit(mut p: Part, t: Transmitter) -> Outcome
+    ensures { λ r. ⌜ ((s : Station) (i : ℕ) → p ≡ partOf s i → putBack s r ≡ enter s t) ⌝ }
 {
-    let i = occupancy::free_place(s.used);
+    let i = occupancy::free_place(p.used);
     if occupancy::PLACES <= i {
-        return Heard {
-            station: s,
+        return Outcome {
+            part: p,
             answer: 30,
         };
     }
-    Heard {
-        station: places::with_new(s, i, new_unit(s.clock, t)),
+    let used = occupancy::with_place(p.used, i);
+    let unit = new_unit(p.clock, t);
+    p.used = used;
+    p.place = i;
+    p.unit = unit;
+    Outcome {
+        part: p,
         answer: 40,
     }
 }
 
-// A Transmitter whose key is held in place i.
-fn renew_unit(s: Station, i: usize, t: Transmitter) -> Heard
-    requires { ⌜ i < 16 ⌝ }
-    ensures { λ r. ⌜ r ≡ renew s i t ⌝ }
+// A Transmitter whose key is held in the part's place.
+fn renew_unit(mut p: Part, t: Transmitter) -> Outcome
+    ensures { λ r. ⌜ ((s : Station) (i : ℕ) → p ≡ partOf s i → putBack s r ≡ renew s (slot i) t) ⌝ }
 {
-    let u = s.units[i];
-    Heard {
-        station: places::with_unit(s, i, renewed_unit(u, t)),
+    let u = p.unit;
+    let unit = renewed_unit(u, t);
+    p.unit = unit;
+    Outcome {
+        part: p,
         answer: 41,
     }
 }
 
 // A Transmitter: 40, 41 or 30.
-pub(crate) fn transmitter(s: Station, t: Transmitter) -> Heard
-    ensures { λ r. ⌜ r ≡ hearTransmitter s t ⌝ }
+pub(crate) fn transmitter(p: Part, t: Transmitter) -> Outcome
+    ensures { λ r. ⌜ ((s : Station) → p ≡ partOf s (placeOf s (keyOf (t .header))) → putBack s r ≡ hearTransmitter s t) ⌝ }
 {
-    let i = places::place_of(s, crate::key_of(t.header));
-    if i < occupancy::PLACES {
-        renew_unit(s, i, t)
+    if p.place < occupancy::PLACES {
+        renew_unit(p, t)
     } else {
-        enter_unit(s, t)
+        enter_unit(p, t)
     }
 }

@@ -1,14 +1,18 @@
 // The net-entry state of one station (document 01, "The station"): what each datagram and each clock makes of it.
 // Every public call takes every station and every argument, and is promised as a whole answer and a whole station after it.
 ghost use mathlib.Core.Path.{_≡_};
-ghost use Rattle.station.specs.Units.{keyOf, fresh, made, stateNumber, unitsHeld, seenOf, placeAt};
+ghost use Rattle.pdu.specs.Reading.{reading};
+ghost use Rattle.station.specs.Units.{placeOf, keyOf, fresh, made, stateNumber, unitsHeld, seenOf, placeAt};
 ghost use Rattle.station.specs.Hearing.{heard};
+ghost use Rattle.station.specs.Parts.{senderKey, partOf, putBack};
 ghost use Rattle.station.specs.Clock.{clocked};
+ghost use Rattle.station.specs.declared.Station.{Station};
 use pdu::Header;
 use pdu::Reading;
 
 mod hear_signal;
 mod hear_transmitter;
+mod parts;
 mod pass_time;
 mod places;
 
@@ -29,25 +33,43 @@ pub enum State {
     Fine,
 }
 
-// An entry: what the station knows of a unit.
+// An entry: what the station knows of a unit. The wide fields stand first, so that there is no gap between them to copy.
 pub struct Unit {
     pub key: u64,
+    pub last: u64,
+    pub id: u32,
     pub level: u8,
     pub state: u8,
-    pub id: u32,
     pub inside: bool,
-    pub last: u64,
 }
 
-// A station; `used` is the word of held places, and what a free place holds means nothing.
+// A station; `used` is the word of held places, and what a free place holds means nothing. No gap stands before `units`: they are copied as one block.
 pub struct Station {
     level: u8,
     net: u8,
+    used: u16,
     id: u32,
     state: State,
     clock: u64,
-    used: u16,
     units: [Unit; 16],
+}
+
+// What one datagram can touch of a station: its own fields, and the entry in the sender's place. An unknown sender's place is 16, and the entry that of place 0.
+struct Part {
+    level: u8,
+    net: u8,
+    used: u16,
+    id: u32,
+    state: State,
+    clock: u64,
+    place: usize,
+    unit: Unit,
+}
+
+// What the rules make of a part, and the answer.
+struct Outcome {
+    part: Part,
+    answer: u8,
 }
 
 // What the maker answers: 0, or 37 with a station of level 0, net 0.
@@ -121,19 +143,47 @@ pub fn new(level: u8, net: u8) -> Made
     }
 }
 
-// The station's call on a datagram: the reader's number, 30 to 35, or 40 to 44.
-pub fn hear(station: Station, datagram: &[u8]) -> Heard
-    ensures { λ r. ⌜ r ≡ heard station (now (datagram .entry)) ⌝ }
+// What a reading of the datagram makes of the part with its sender's place.
+fn outcome_of(part: Part, read: Reading, datagram: &[u8]) -> Outcome
+    requires { ⌜ read ≡ reading (now datagram) ⌝ }
+    ensures { λ r. ⌜ ((s : Station) → part ≡ partOf s (placeOf s (senderKey read)) → putBack s r ≡ heard s (now (datagram .entry))) ⌝ }
 {
-    let reading = pdu::read(datagram);
-    match reading {
-        Reading::Refused(n) => Heard { station, answer: n },
-        Reading::Transmitter(t) => hear_transmitter::transmitter(station, t),
+    match read {
+        Reading::Refused(n) => Outcome { part, answer: n },
+        Reading::Transmitter(t) => hear_transmitter::transmitter(part, t),
         Reading::Signal(g, size) => {
             let end = BODY_START + size as usize;
             let word = pdu::words::at(&datagram[BODY_START..end], 0);
-            hear_signal::signal(station, g, word)
+            hear_signal::signal(part, g, word)
         }
+    }
+}
+
+// The station's call on a datagram: the reader's number, 30 to 35, or 40 to 44. The sender is looked for here and not by `place_of`, which would copy the entries.
+pub fn hear(station: Station, datagram: &[u8]) -> Heard
+    ensures { λ r. ⌜ r ≡ heard station (now (datagram .entry)) ⌝ }
+{
+    let read = pdu::read(datagram);
+    let key = parts::sender_key(read);
+    let mut units = station.units;
+    let mut i = 0;
+    while i < occupancy::PLACES {
+        let u = units[i];
+        if wire::both(occupancy::is_held(station.used, i), u.key == key) {
+            break;
+        }
+        i += 1;
+    }
+    let from = i % occupancy::PLACES;
+    let sender = units[from];
+    let out = outcome_of(parts::part_of(station, i, sender), read, datagram);
+    let part = out.part;
+    let to = part.place % occupancy::PLACES;
+    let unit = part.unit;
+    units[to] = unit;
+    Heard {
+        station: parts::station_of(part, units),
+        answer: out.answer,
     }
 }
 

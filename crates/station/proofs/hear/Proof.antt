@@ -1,105 +1,123 @@
--- The call on a datagram answers and leaves what the rules say of every reading. Each arm is one answer of reading. A Signal's body lies within the datagram, and its first word is the one that the rule asks for.
+-- The call on a datagram answers and leaves what the rules say. The loop passes only places that are not held with the sender's key and stops at the first that is, or at 16: that is the key's place. The outcome of its part, put back, is the rules'.
+-- The measure is the places left.
 -- Assumes nothing.
-use mathlib.Core.List.{List}
-use Rattle.pdu.proofs.Carried.{body-there}
-use mathlib.Core.Path.{_≡_, sym, ap, _∙_}
+use mathlib.Core.Path.{_≡_, refl, sym, ap, _∙_}
+use mathlib.Core.Logic.{⊎-elim}
+use mathlib.Core.Bool.{Bool, true, false, _&&_}
+use Prim.Native.Nat.{ℕ, _-_, _≤_, _<_}
+use lib.Dec.{eqb}
 use native.Mathlib.Omega.{arith}
-use Prim.Native.Nat.{ℕ, _+_, _-_}
-use denote.Ref.{now}
-use lib.ListN.{take, drop}
-use Rattle.pdu.specs.Words.{wordAt}
-use Rattle.pdu.specs.Reading.{bodyOf}
-use Rattle.pdu.specs.declared.Reading.{Reading}
-use Rattle.station.specs.Hearing.{hearSignal, step, firstWord, heard}
-use borrow.Author.Needs.{needs}
+use borrow.Author.Count.{below-none, below-more}
+use Rattle.occupancy.proofs.LeastLaws.{least-is}
+use Rattle.station.specs.Units.{unitAt, holds, placeOf}
+use Rattle.station.specs.Hearing.{answering}
+use Rattle.station.specs.Parts.{partOf}
 use Rattle.station.proofs.hear.Statement.{statement}
 use Rattle.station.proofs.hear.Tie as tie
 
-read-requires : tie.Need-read-requires
-read-requires c κs = search needs
+abbrev Inv-loop : tie.InvT-loop
+Inv-loop station datagram read key units i₀ i = (i ≤ 16) × ((k : ℕ) → k < i → holds station key k ≡ false)
 
-enum-known-reading : tie.Need-enum-known-reading
-enum-known-reading c = search needs
+abbrev μ-loop : tie.MeasureT-loop
+μ-loop station datagram read key units i₀ i = 16 - i
 
-enum-known-reading-2 : tie.Need-enum-known-reading-2
-enum-known-reading-2 c = search needs
+read-requires : tie.Need-read-requires Inv-loop μ-loop
+read-requires c κs = tt
 
-transmitter-requires : tie.Need-transmitter-requires
-transmitter-requires c κs = search needs
+sender-key-requires : tie.Need-sender-key-requires Inv-loop μ-loop
+sender-key-requires c κs = tt
 
-enum-known-reading-3 : tie.Need-enum-known-reading-3
-enum-known-reading-3 c = search needs
+loop-holds : tie.Need-loop-holds Inv-loop μ-loop
+loop-holds c = (omega arith, below-none _)
 
-cast-end : tie.Need-cast-end
-cast-end c = search needs
+mul-u : tie.Need-mul-u Inv-loop μ-loop
+mul-u c = omega arith
 
-add-end : tie.Need-add-end
-add-end c = search needs
+array-copy-out-u : tie.Need-array-copy-out-u Inv-loop μ-loop
+array-copy-out-u c = omega arith
 
-sub-at : tie.Need-sub-at
-sub-at c = search needs
+is-held-requires : tie.Need-is-held-requires Inv-loop μ-loop
+is-held-requires c κs = omega arith
 
-part-at-start : tie.Need-part-at-start
-part-at-start c = search needs
+both-requires : tie.Need-both-requires Inv-loop μ-loop
+both-requires c κs = tt
 
-part-at-end : tie.Need-part-at-end
-part-at-end c =
-    let e = sym (c .before .before .before .read .ensures) ∙ c .before .reading3 .given .1 in
-    omega (arith, body-there (now (c .before .before .before .before .before .args .datagram)) (c .before .reading3 .given .0 .0) (c .before .reading3 .given .0 .1 .0) e .0)
+add-i : tie.Need-add-i Inv-loop μ-loop
+add-i c = omega arith
 
-at-requires : tie.Need-at-requires
-at-requires c κs = search needs
+loop-less : tie.Need-loop-less Inv-loop μ-loop
+loop-less c = omega arith
 
-signal-requires : tie.Need-signal-requires
-signal-requires c κs = search needs
+loop-again : tie.Need-loop-again Inv-loop μ-loop
+loop-again c =
+    let s = c .before .before .before .before .before .before .before .before .before .before .before .args .station in
+    let key = c .before .before .before .before .before .before .before .before .sender-key .result in
+    let i = c .before .before .before .before .before .before .loop .i in
+    let test = c .before .both .ensures ∙ ap (λ (b : Bool). b && eqb (unitAt s i .key) key) (c .before .before .before .is-held .ensures) in
+    (omega arith, below-more _ _ (c .before .before .before .before .before .before .loop .inv .1) (sym test ∙ c .if1 .left))
 
-returns : tie.Need-returns
-unfolding heard step
+-- the loop stops at the place of the sender's key
+found : (c : tie.Left-loop Inv-loop μ-loop) → placeOf (c .before .before .before .before .before .before .args .station) (c .before .before .before .sender-key .result) ≡ c .before .loop .i
+unfolding placeOf
+found c =
+    let s = c .before .before .before .before .before .before .args .station in
+    let key = c .before .before .before .sender-key .result in
+    let i = c .before .loop .i in
+    least-is (holds s key) 16 i (c .before .loop .inv .0) (c .before .loop .inv .1)
+    (λ l. ⊎-elim {C = holds s key i ≡ true}
+    (λ w. absurd (omega (arith, w .left, l)))
+    (λ w. sym (w .4 .ensures ∙ ap (λ (b : Bool). b && eqb (unitAt s i .key) key) (w .2 .ensures)) ∙ w .5 .taken)
+    (c .loop-test .came))
+
+mul-sender : tie.Need-mul-sender Inv-loop μ-loop
+mul-sender c = omega arith
+
+array-copy-out-sender : tie.Need-array-copy-out-sender Inv-loop μ-loop
+array-copy-out-sender c = omega arith
+
+part-of-requires : tie.Need-part-of-requires Inv-loop μ-loop
+part-of-requires c κs = refl
+
+outcome-of-requires : tie.Need-outcome-of-requires Inv-loop μ-loop
+outcome-of-requires c κs = c .before .before .before .before .before .before .read .ensures
+
+mul-units : tie.Need-mul-units Inv-loop μ-loop
+mul-units c = omega arith
+
+array-set-from-units : tie.Need-array-set-from-units Inv-loop μ-loop
+array-set-from-units c = omega arith
+
+station-of-requires : tie.Need-station-of-requires Inv-loop μ-loop
+station-of-requires c κs = tt
+
+returns : tie.Need-returns Inv-loop μ-loop
 returns c =
-    let given = c .before .before .before .before .before .args in
-    let s = given .station in
-    let d = now (given .datagram) in
-    let e = sym (c .before .before .before .read .ensures) ∙ c .before .reading .given .1 in
-    sym (ap (λ (r : Reading). step s r (firstWord d)) e)
-
-returns-2 : tie.Need-returns-2
-unfolding heard step
-returns-2 c =
-    let given = c .before .before .before .before .before .before .args in
-    let s = given .station in
-    let d = now (given .datagram) in
-    let e = sym (c .before .before .before .before .read .ensures) ∙ c .before .before .reading2 .given .1 in
-    c .transmitter .ensures ∙ sym (ap (λ (r : Reading). step s r (firstWord d)) e)
-
-returns-3 : tie.Need-returns-3
-unfolding heard step
-returns-3 c =
-    let given = c .before .before .before .before .before .before .before .before .args in
-    let s = given .station in
-    let d = now (given .datagram) in
-    let e = sym (c .before .before .before .before .before .before .read .ensures) ∙ c .before .before .before .before .reading3 .given .1 in
-    let g = c .before .before .before .before .reading3 .given .0 .0 in
-    let n = c .before .before .before .before .reading3 .given .0 .1 .0 in
-    let size : 52 + n - 52 ≡ n = omega arith in
-    let body : take (52 + n - 52) (drop 52 d) ≡ bodyOf d = ap (λ (k : ℕ). take k (drop 52 d)) size ∙ sym (body-there d g n e .1) in
-    c .signal .ensures ∙ ap (hearSignal s g) (c .before .at .ensures ∙ ap (λ (b : List ℕ). wordAt b 0) body) ∙ sym (ap (λ (r : Reading). step s r (firstWord d)) e)
+    let s = c .before .before .before .before .before .before .before .before .before .before .before .before .before .args .station in
+    let place = sym (found (c .before .before .before .before .before .before .before)) ∙ ap (placeOf s) (c .before .before .before .before .before .before .before .before .before .before .sender-key .ensures) in
+    let made = c .before .before .before .before .outcome-of in
+    ap (answering (made .result .answer)) (c .station-of .ensures) ∙ made .ensures s (c .before .before .before .before .before .part-of .ensures ∙ ap (partOf s) place)
 
 pub hear-spec : {M : Type 1} → statement M
 hear-spec =
     tie.close
     (tie.spec
+    Inv-loop
+    μ-loop
     read-requires
-    enum-known-reading
-    enum-known-reading-2
-    transmitter-requires
-    enum-known-reading-3
-    cast-end
-    add-end
-    sub-at
-    part-at-start
-    part-at-end
-    at-requires
-    signal-requires
-    returns
-    returns-2
-    returns-3)
+    sender-key-requires
+    loop-holds
+    mul-u
+    array-copy-out-u
+    is-held-requires
+    both-requires
+    add-i
+    loop-less
+    loop-again
+    mul-sender
+    array-copy-out-sender
+    part-of-requires
+    outcome-of-requires
+    mul-units
+    array-set-from-units
+    station-of-requires
+    returns)

@@ -1,4 +1,4 @@
--- The station after a J0.0 is the rule's. The ID and the state are those of the rule, and every other field is the station's own.
+-- The part after a J0.0 is that of the rule's station. The ID and the state are those of the rule, and every other field is the part's own.
 -- Assumes nothing.
 use Rattle.station.specs.Hearing.{afterJ00}
 use borrow.Author.Needs.{needs}
@@ -16,7 +16,7 @@ id-after-requires c κs = search needs
 
 returns : tie.Need-returns
 unfolding afterJ00
-returns c = rw (c .id-after .ensures, c .before .before .state-after .ensures, c .before .before .before .both .ensures)
+returns c = λ s i e. rw (c .id-after .ensures, c .before .state-after .ensures, c .before .before .both .ensures, e)
 
 pub after-j00-spec : {M : Type 1} → statement M
 after-j00-spec = tie.close (tie.spec both-requires state-after-requires id-after-requires returns)

@@ -1,56 +1,58 @@
 -- A Signal is answered by the first rule that applies, or by its message. Each return is the first rule that applies, by the tests that led there; past all three the message decides.
 -- Assumes nothing.
-use mathlib.Core.Path.{sym, ap, _∙_}
+use mathlib.Core.Path.{_≡_, sym, ap, subst, _∙_}
+use mathlib.Core.Bool.{not}
+use Prim.Native.Nat.{ℕ, _≤_, _<_}
+use lib.Dec.{eqb}
 use Rattle.pdu.proofs.ReadingLaws.{differs, agrees}
 use borrow.Author.Tests.{lt-ltb, le-ltb}
-use Rattle.station.specs.Units.{placeOf}
-use Rattle.station.specs.Hearing.{signalRules, hearMessage, hearSignal}
+use Rattle.station.proofs.PartLaws.{kept, own-slot}
+use Rattle.station.specs.Units.{keyOf, unitAt, placeOf}
+use Rattle.station.specs.Hearing.{otherId, signalRules, hearMessage, hearSignal}
+use Rattle.station.specs.Parts.{partOf}
+use Rattle.station.specs.declared.Station.{Station}
+use Rattle.station.specs.declared.Part.{Part}
 use borrow.Author.Needs.{needs}
 use Rattle.station.proofs.hear_signal.signal.Statement.{statement}
 use Rattle.station.proofs.hear_signal.signal.Tie as tie
 
-key-of-requires : tie.Need-key-of-requires
-key-of-requires c κs = search needs
+-- the rules on the net and on the IDs ask of the station what the code asks of the part with the sender's place
+same-net : (s : Station) (k : ℕ) (p : Part) (net : ℕ) → p ≡ partOf s k → not (eqb net (s .net)) ≡ not (eqb net (p .net))
+same-net s k p net e = sym (ap (λ (q : Part). not (eqb net (q .net))) e)
 
-place-of-requires : tie.Need-place-of-requires
-place-of-requires c κs = search needs
+same-ids : (s : Station) (k : ℕ) (p : Part) → k < 16 → p ≡ partOf s k → otherId (s .id) (unitAt s k .id) ≡ otherId (p .id) (p .unit .id)
+same-ids s k p low e =
+    ap (λ (i : ℕ). otherId (s .id) (unitAt s i .id)) (sym (own-slot k low)) ∙ sym (ap (λ (q : Part). otherId (q .id) (q .unit .id)) e)
 
 returns : tie.Need-returns
 unfolding hearSignal signalRules
-returns c =
-    let s = c .before .before .before .args .t1 in
-    let i = c .before .place-of .result in
-    let at = c .before .place-of .ensures ∙ ap (placeOf s) (c .before .before .key-of .ensures) in
-    rw (← at, le-ltb i 16 (c .if1 .taken))
+returns c = λ s e.
+    let given = c .before .before .args in
+    let k = placeOf s (keyOf (given .g .header)) in
+    let unknown : 16 ≤ k = subst (λ (q : Part). 16 ≤ q .place) e (c .if1 .taken) in
+    rw (le-ltb k 16 unknown) (kept s k 31 (given .p) e)
 
 returns-2 : tie.Need-returns-2
 unfolding hearSignal signalRules
-returns-2 c =
+returns-2 c = λ s e.
     let given = c .before .before .before .before .before .args in
-    let s = given .t1 in
-    let g = given .g in
-    let i = c .before .before .before .place-of .result in
-    let at = c .before .before .before .place-of .ensures ∙ ap (placeOf s) (c .before .before .before .before .key-of .ensures) in
-    rw (← at, lt-ltb i 16 (c .before .before .if1 .left), differs (g .network .net) (s .net) (c .if2 .taken))
-
-mul-u : tie.Need-mul-u
-mul-u c = search needs
-
-element-copy-out-u : tie.Need-element-copy-out-u
-element-copy-out-u c = search needs
+    let net = given .g .network .net in
+    let k = placeOf s (keyOf (given .g .header)) in
+    let low : k < 16 = subst (λ (q : Part). q .place < 16) e (c .before .before .before .if1 .left) in
+    rw (lt-ltb k 16 low, same-net s k (given .p) net e ∙ differs net (given .p .net) (c .if2 .taken)) (kept s k 32 (given .p) e)
 
 other-id-requires : tie.Need-other-id-requires
 other-id-requires c κs = search needs
 
 returns-3 : tie.Need-returns-3
 unfolding hearSignal signalRules
-returns-3 c =
+returns-3 c = λ s e.
     let given = c .before .before .before .before .before .before .before .before .args in
-    let s = given .t1 in
-    let g = given .g in
-    let i = c .before .before .before .before .before .before .place-of .result in
-    let at = c .before .before .before .before .before .before .place-of .ensures ∙ ap (placeOf s) (c .before .before .before .before .before .before .before .key-of .ensures) in
-    rw (← at, lt-ltb i 16 (c .before .before .before .before .before .if1 .left), agrees (g .network .net) (s .net) (c .before .before .before .if2 .left), sym (c .before .other-id .ensures) ∙ c .if3 .taken)
+    let net = given .g .network .net in
+    let k = placeOf s (keyOf (given .g .header)) in
+    let low : k < 16 = subst (λ (q : Part). q .place < 16) e (c .before .before .before .before .before .before .if1 .left) in
+    let same = same-net s k (given .p) net e ∙ agrees net (given .p .net) (c .before .before .before .if2 .left) in
+    rw (lt-ltb k 16 low, same, same-ids s k (given .p) low e ∙ sym (c .before .other-id .ensures) ∙ c .if3 .taken) (kept s k 33 (given .p) e)
 
 message-requires : tie.Need-message-requires
 message-requires c κs = search needs
@@ -60,24 +62,22 @@ taken-requires c κs = search needs
 
 returns-4 : tie.Need-returns-4
 unfolding hearSignal signalRules
-returns-4 c =
+returns-4 c = λ s e.
     let given = c .before .before .before .before .before .before .before .before .before .before .args in
-    let s = given .t1 in
-    let g = given .g in
-    let i = c .before .before .before .before .before .before .before .before .place-of .result in
-    let at = c .before .before .before .before .before .before .before .before .place-of .ensures ∙ ap (placeOf s) (c .before .before .before .before .before .before .before .before .before .key-of .ensures) in
-    rw (← at, lt-ltb i 16 (c .before .before .before .before .before .before .before .if1 .left), agrees (g .network .net) (s .net) (c .before .before .before .before .before .if2 .left), sym (c .before .before .before .other-id .ensures) ∙ c .before .before .if3 .left) (c .taken .ensures ∙ ap (hearMessage s i) (c .before .message .ensures))
+    let net = given .g .network .net in
+    let k = placeOf s (keyOf (given .g .header)) in
+    let low : k < 16 = subst (λ (q : Part). q .place < 16) e (c .before .before .before .before .before .before .before .before .if1 .left) in
+    let same = same-net s k (given .p) net e ∙ agrees net (given .p .net) (c .before .before .before .before .before .if2 .left) in
+    let own = same-ids s k (given .p) low e ∙ sym (c .before .before .before .other-id .ensures) ∙ c .before .before .if3 .left in
+    let said = c .before .message in
+    rw (lt-ltb k 16 low, same, own) (c .taken .ensures s k e ∙ ap (λ (i : ℕ). hearMessage s i (said .result)) (own-slot k low) ∙ ap (hearMessage s k) (said .ensures))
 
 pub signal-spec : {M : Type 1} → statement M
 signal-spec =
     tie.close
     (tie.spec
-    key-of-requires
-    place-of-requires
     returns
     returns-2
-    mul-u
-    element-copy-out-u
     other-id-requires
     returns-3
     message-requires

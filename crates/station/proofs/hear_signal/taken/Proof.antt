@@ -2,6 +2,7 @@
 -- Assumes nothing.
 use mathlib.Core.Path.{sym, ap, _∙_}
 use Rattle.station.specs.Hearing.{hearMessage}
+use Rattle.station.specs.Parts.{slot}
 use borrow.Author.Needs.{needs}
 use Rattle.station.proofs.hear_signal.taken.Statement.{statement}
 use Rattle.station.proofs.hear_signal.taken.Tie as tie
@@ -25,19 +26,13 @@ other-requires : tie.Need-other-requires
 other-requires c κs = search needs
 
 returns : tie.Need-returns
-returns c =
-    let given = c .before .before .before .args in
-    c .net-entry .ensures ∙ sym (ap (hearMessage (given .s) (given .i)) (c .before .enum-told .given .1))
+returns c = λ s i e. c .net-entry .ensures s i e ∙ sym (ap (hearMessage s (slot i)) (c .before .enum-told .given .1))
 
 returns-2 : tie.Need-returns-2
-returns-2 c =
-    let given = c .before .before .before .args in
-    c .ppli .ensures ∙ sym (ap (hearMessage (given .s) (given .i)) (c .before .enum-told2 .given .1))
+returns-2 c = λ s i e. c .ppli .ensures s i e ∙ sym (ap (hearMessage s (slot i)) (c .before .enum-told2 .given .1))
 
 returns-3 : tie.Need-returns-3
-returns-3 c =
-    let given = c .before .before .before .args in
-    c .other .ensures ∙ sym (ap (hearMessage (given .s) (given .i)) (c .before .enum-told3 .given .1))
+returns-3 c = λ s i e. c .other .ensures s i e ∙ sym (ap (hearMessage s (slot i)) (c .before .enum-told3 .given .1))
 
 pub taken-spec : {M : Type 1} → statement M
 taken-spec =

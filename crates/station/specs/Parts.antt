@@ -1,0 +1,55 @@
+-- The part of a station that one datagram can touch, and a station with such a part put back. The promises of private functions speak of it, and no public one does.
+use Prim.Native.Nat.{ℕ, _%_}
+use mathlib.Core.List.{List}
+use lib.ListN.{set}
+use Rattle.occupancy.specs.Places.{places}
+use Rattle.pdu.specs.declared.Reading.{Reading}
+use Rattle.pdu.specs.declared.Reading.the-variants.{Refused, Transmitter as aTransmitter, Signal as aSignal}
+use Rattle.station.specs.Units.{keyOf, unitAt}
+use Rattle.station.specs.Hearing.{answering}
+use Rattle.station.specs.declared.Unit.{Unit}
+use Rattle.station.specs.declared.Station.{Station}
+use Rattle.station.specs.declared.Heard.{Heard}
+use Rattle.station.specs.declared.Part.{Part}
+use Rattle.station.specs.declared.Outcome.{Outcome}
+
+-- the key of the PDU that was read (01: the sender's); 0 where none was
+abbrev pub senderKey : Reading → ℕ
+senderKey (Refused n) = 0
+senderKey (aTransmitter t) = keyOf (t .header)
+senderKey (aSignal g n) = keyOf (g .header)
+
+-- the place that a part is taken from: its own, and place 0 for the place 16 of an unknown key
+abbrev pub slot : ℕ → ℕ
+slot i = i % places
+
+-- a station's own fields, and what stands in place i
+abbrev pub partOf : Station → ℕ → Part
+partOf s i =
+    record {
+      level = s .level;
+      net = s .net;
+      used = s .used;
+      id = s .id;
+      state = s .state;
+      clock = s .clock;
+      place = i;
+      unit = unitAt s (slot i);
+    }
+
+-- the station with a part's own fields and these sixteen entries
+abbrev pub stationOf : Part → List Unit → Station
+stationOf p units =
+    record {
+      level = p .level;
+      net = p .net;
+      used = p .used;
+      id = p .id;
+      state = p .state;
+      clock = p .clock;
+      units = units;
+    }
+
+-- what a call answers and leaves, where it made this outcome of a part of the station s
+abbrev pub putBack : Station → Outcome → Heard
+putBack s o = answering (o .answer) (stationOf (o .part) (set (s .units) (slot (o .part .place)) (o .part .unit)))
