@@ -1,3 +1,4 @@
+-- What bytes, tables and refusals in order mean.
 pub mod Bytes
 pub mod Table
 pub mod First
