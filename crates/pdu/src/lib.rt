@@ -17,6 +17,27 @@ mod transmitter_reader;
 mod transmitter_writer;
 pub mod words;
 
+// The numbers of document 01 that the crates above use too.
+pub const TRANSMITTER_SIZE: usize = 112;
+
+pub const LAST_LEVEL: u8 = 4;
+
+pub const COARSE: u8 = 2;
+
+pub const FINE: u8 = 3;
+
+pub const LAST_NET: u8 = 127;
+
+// Where a Signal's body starts.
+pub const BODY_START: usize = 52;
+
+// A type 0 body: its header bytes, a word's bytes, the most words.
+pub const BODY_HEADER: usize = 6;
+
+pub const WORD_BYTES: usize = 10;
+
+pub const MOST_WORDS: usize = 12;
+
 // Bytes 0 to 19, which both PDUs share; type, family, length and padding are not kept.
 pub struct Header {
     pub version: u8,
@@ -184,7 +205,7 @@ pub fn size(r: Reading) -> u32
 {
     match r {
         Reading::Refused(_) => 0,
-        Reading::Transmitter(_) => transmitter_reader::SIZE as u32,
+        Reading::Transmitter(_) => TRANSMITTER_SIZE as u32,
         Reading::Signal(_, body) => signal_reader::signal_size(body as usize) as u32,
     }
 }
@@ -200,7 +221,7 @@ pub fn write_transmitter(t: Transmitter, out: &mut [u8]) -> Written
         return Written::Refused(n);
     }
     transmitter_writer::put(out, t);
-    Written::Size(transmitter_reader::SIZE)
+    Written::Size(TRANSMITTER_SIZE)
 }
 
 // Writes a Signal, whose body is the whole slice, from the start of `out`.

@@ -26,15 +26,11 @@ pub(crate) const TDL_TYPE: u16 = 100;
 
 pub(crate) const NETWORK_BYTES: u16 = 20;
 
-pub(crate) const BODY_START: usize = 52;
-
 const SLOTS: u32 = 131072;
 
 const EPOCH_UNIT: u32 = 16777216;
 
 const LAST_NPG: u16 = 511;
-
-const LAST_NET: u8 = 127;
 
 const LAST_SECURITY: u8 = 127;
 
@@ -47,8 +43,6 @@ const LAST_SLOT: u32 = 98303;
 const LAST_EPOCH: u8 = 112;
 
 const LAST_SLOT_OF_LAST_EPOCH: u32 = 45151;
-
-const MOST_WORDS: usize = 12;
 
 const MOST_BYTES: usize = 256;
 
@@ -65,7 +59,7 @@ pub(crate) fn signal_size(n: usize) -> usize
     requires { ⌜ n ≤ 65535 ⌝ }
     ensures { λ r. ⌜ r ≡ signalSize n ⌝ }
 {
-    filled_size(BODY_START + n)
+    filled_size(crate::BODY_START + n)
 }
 
 // Whether refusal 12 applies to a data length in bits.
@@ -114,7 +108,7 @@ pub(crate) fn network_refusal(n: Network) -> u8
     if LAST_NPG < n.npg {
         return 13;
     }
-    if LAST_NET < n.net {
+    if crate::LAST_NET < n.net {
         return 13;
     }
     if wrong_security(n.tsec) {
@@ -144,10 +138,10 @@ pub(crate) fn body_refusal(message_type: u8, body: &[u8]) -> u8
 {
     if message_type == 0 {
         let n = words::count(body);
-        if body.len() != words::BODY_HEADER + words::WORD_BYTES * n {
+        if body.len() != crate::BODY_HEADER + crate::WORD_BYTES * n {
             return 14;
         }
-        if MOST_WORDS < n {
+        if crate::MOST_WORDS < n {
             return 15;
         }
         return 0;
@@ -163,7 +157,7 @@ fn body_end(d: &[u8]) -> usize
     requires { ⌜ (30 ≤ length (now d)) × (160 ≤ num 2 28 (now d)) ⌝ }
     ensures { λ r. ⌜ r ≡ 52 + bodySize (now (d .entry)) ⌝ }
 {
-    BODY_START + (wire::u16_at(d, 28) / 8 - NETWORK_BYTES) as usize
+    crate::BODY_START + (wire::u16_at(d, 28) / 8 - NETWORK_BYTES) as usize
 }
 
 // The number of the first broken rule of the network header and of the body, which starts at byte 52, or 0.
@@ -177,7 +171,7 @@ fn inner_refusal(d: &[u8]) -> u8
         return n;
     }
     let end = body_end(d);
-    body_refusal(network.message_type, &d[BODY_START..end])
+    body_refusal(network.message_type, &d[crate::BODY_START..end])
 }
 
 // The number of the first broken rule of 4, 10, 11, 12 and 8, or 0.

@@ -92,9 +92,9 @@ pub(crate) fn put(out: &mut [u8], s: Signal, body: &[u8])
     requires { ⌜ (signalSize (length (now body)) ≤ length (now out)) × (s .encoding < 16384) × (s .network .slot < 131072) × (length (now body) ≤ 256) ⌝ }
     ensures { λ _. ⌜ now (out .exit) ≡ splice 0 (signalBytes s (now (body .entry))) (now (out .entry)) ⌝ }
 {
-    let end = signal_reader::BODY_START + body.len();
+    let end = crate::BODY_START + body.len();
     let size = signal_reader::signal_size(body.len());
     put_head(out, s, body.len() as u16);
-    wire::copy(out, signal_reader::BODY_START, body);
+    wire::copy(out, crate::BODY_START, body);
     wire::zero(out, end, size - end);
 }

@@ -18,8 +18,6 @@ use crate::common;
 
 const LEAST: u16 = 104;
 
-pub(crate) const SIZE: usize = 112;
-
 pub(crate) const CATEGORY: u8 = 21;
 
 pub(crate) const INPUT_SOURCE: u8 = 8;
@@ -37,8 +35,6 @@ pub(crate) const SYSTEM: u16 = 8;
 
 pub(crate) const MODULATION_LENGTH: u8 = 8;
 
-const LAST_LEVEL: u8 = 4;
-
 const FIRST_ID_LEVEL: u8 = 3;
 
 const FIRST_PRIMARY_MODE: u8 = 1;
@@ -46,10 +42,6 @@ const FIRST_PRIMARY_MODE: u8 = 1;
 const LAST_PRIMARY_MODE: u8 = 2;
 
 const LAST_SECONDARY_MODE: u8 = 3;
-
-const COARSE: u8 = 2;
-
-const FINE: u8 = 3;
 
 // Whether refusal 5 applies.
 fn wrong_fixed(d: &[u8]) -> bool
@@ -73,10 +65,13 @@ pub(crate) fn wrong_sync(s: Sync) -> bool
         s.primary <= LAST_PRIMARY_MODE,
     );
     let modes = wire::both(
-        wire::both(s.level <= LAST_LEVEL, primary),
+        wire::both(s.level <= crate::LAST_LEVEL, primary),
         s.secondary <= LAST_SECONDARY_MODE,
     );
-    let state = wire::both(modes, wire::either(s.state == COARSE, s.state == FINE));
+    let state = wire::both(
+        modes,
+        wire::either(s.state == crate::COARSE, s.state == crate::FINE),
+    );
     wire::no(wire::both(state, wire::either(FIRST_ID_LEVEL <= s.level, s.id == 0)))
 }
 
@@ -110,7 +105,7 @@ fn layout_refusal(d: &[u8]) -> u8
     if wire::u16_at(d, 70) != PATTERN_LENGTH {
         return 7;
     }
-    if d.len() != SIZE {
+    if d.len() != crate::TRANSMITTER_SIZE {
         return 8;
     }
     0

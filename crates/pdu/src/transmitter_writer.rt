@@ -20,7 +20,7 @@ pub(crate) fn refusal(t: Transmitter, room: usize) -> u8
     if transmitter_reader::wrong_sync(t.sync) {
         return 9;
     }
-    if room < transmitter_reader::SIZE {
+    if room < crate::TRANSMITTER_SIZE {
         return 16;
     }
     0
@@ -103,7 +103,7 @@ pub(crate) fn put(out: &mut [u8], t: Transmitter)
         out,
         t.header,
         common::TRANSMITTER_TYPE,
-        transmitter_reader::SIZE as u16,
+        crate::TRANSMITTER_SIZE as u16,
     );
     put_entity(out, t);
     put_antenna(out, t);
