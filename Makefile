@@ -1,5 +1,5 @@
 # The archive and the programs of the proved crates, the C host that links the archive, and the
-# second program.
+# second program. `make help` prints the lines that start with '##'.
 
 # Others may be tried: make host-tests ARCHIVE=path/to/libhost.a
 ARCHIVE ?= target/staticlib/libhost.a
@@ -7,10 +7,16 @@ LISTER ?= target/bin/lister
 REPLAY ?= target/bin/replay
 BENCH ?= target/bin/bench
 
+# The programs that rt builds, one to a line.
+PROGRAMS := \
+    target/bin/lister \
+    target/bin/replay \
+    target/bin/bench
+
 CC := gcc
 CFLAGS := -std=c11 -O2 -Wall -Wextra -Werror
 RUSTC := rustc
-RUSTFLAGS := --edition 2021 -C opt-level=3 -C codegen-units=1 -D warnings
+RUSTFLAGS := --edition 2021 -C opt-level=3 -C codegen-units=1 -C linker=$(CC) -D warnings
 
 EXAMPLE := target/host/example
 HOST_TESTS := target/host/tests
@@ -19,87 +25,137 @@ LINKED := target/linked-archive
 
 # What the archive and the programs are made from; must-fail edits are tried on copies.
 CRATE_FILES := $(shell find crates -type f -not -path '*/must-fail/*')
-PROGRAMS := target/bin/lister target/bin/replay target/bin/bench
 
 MAKEFLAGS += --no-print-directory
 
-.PHONY: help run test bench clean archive programs runs host-tests FORCE
-.PHONY: compare compare-records compare-lister compare-replay compare-jobs
+# $(call need,COMMAND,WHAT IT IS): stops with one sentence where the command is not on the path.
+need = $(if $(shell command -v $(1) 2>/dev/null),,$(error $(1), $(2), is not on the path))
+need-rt = $(call need,rt,the Rattle toolchain)
+need-cc = $(call need,$(CC),the C compiler)
+need-rustc = $(call need,$(RUSTC),the Rust compiler)
+
+# $(call say,TEXT): what is done next; standard output is for what a target shows.
+say = @echo '$(1)' >&2
+
+# Two runs of rt at once would write the same files in target/.
+.NOTPARALLEL:
 .DELETE_ON_ERROR:
+.PHONY: help FORCE kit c-compiler rust-compiler
 
+## make help             this list
 help:
-	@echo 'make run              an example C host, and a sample exercise over the trunk'
-	@echo 'make test             every proof, test and comparison; ends with the counts'
-	@echo 'make bench            time the archive and the bench program against the second program'
-	@echo 'make runs             the stored runs of the programs alone'
-	@echo 'make host-tests       the C tests of the archive alone'
-	@echo 'make compare          the archive and the second program on datagrams'
-	@echo 'make compare-records  the archive and the second program on trunk records'
-	@echo 'make compare-lister   the lister and the second program on streams of records'
-	@echo 'make compare-replay   both ends and the second program on scripts of calls'
-	@echo 'make compare-jobs     the bench program and the second program on small jobs'
-	@echo 'make clean            remove all that was built'
+	@sed -n 's/^## //p' $(MAKEFILE_LIST)
+	@echo 'Times are from nothing, on 2 idle cores, and nearly all proofs. These are made once, and again where'
+	@echo 'a crate changes: a second time all but test and bench take seconds.'
 
-run: $(EXAMPLE) $(SECOND) $(REPLAY)
+.PHONY: run
+## make run              an example C host, and a sample exercise over the trunk                 5 minutes
+run: rust-compiler $(EXAMPLE) $(SECOND) $(REPLAY)
 	@echo 'What a C host learns of datagrams and trunk records:'
 	@$(EXAMPLE)
 	@echo
 	@echo 'A sample exercise over a line that loses and repeats records:'
 	@$(SECOND) exercise | $(REPLAY) | $(SECOND) tell
 
-test:
-	@scripts/test.sh
+.PHONY: test
+## make test             every proof, test and comparison, from nothing; ends with the counts   25 minutes
+test: rust-compiler kit
+	$(need-rt)
+	@KIT_TOLD=yes scripts/test.sh
 
-bench: $(SECOND) $(BENCH)
+.PHONY: bench
+## make bench            time the archive and the bench program against the second program       4 minutes, then 1
+bench: rust-compiler $(SECOND) $(BENCH)
 	@$(SECOND) bench --bench $(BENCH)
 
-clean:
-	rm -rf target
-
+.PHONY: archive
+## make archive          the archive that C links, target/staticlib/libhost.a                    3 minutes
 archive: $(ARCHIVE)
 
+.PHONY: programs
+## make programs         the proved programs, in target/bin                                      5 minutes
 programs: $(LISTER) $(REPLAY) $(BENCH)
 
+.PHONY: runs
+## make runs             the stored runs of the programs alone                                   5 minutes
 runs: $(PROGRAMS)
 	@scripts/runs.sh
 
-host-tests: $(HOST_TESTS)
+.PHONY: host-tests
+## make host-tests       the C tests of the archive alone                                        3 minutes
+host-tests: c-compiler $(HOST_TESTS)
 	@$(HOST_TESTS)
 
-compare: $(SECOND)
+.PHONY: compare
+## make compare          the archive and the second program on datagrams                         3 minutes
+compare: rust-compiler $(SECOND)
 	@$(SECOND) compare
 
-compare-records: $(SECOND)
+.PHONY: compare-records
+## make compare-records  the archive and the second program on trunk records                     3 minutes
+compare-records: rust-compiler $(SECOND)
 	@$(SECOND) compare-records
 
-compare-lister: $(SECOND) $(LISTER)
+.PHONY: compare-lister
+## make compare-lister   the lister and the second program on streams of records                 3 minutes
+compare-lister: rust-compiler $(SECOND) $(LISTER)
 	@$(SECOND) compare-lister --lister $(LISTER)
 
-compare-replay: $(SECOND) $(REPLAY)
+.PHONY: compare-replay
+## make compare-replay   both ends and the second program on scripts of calls                    5 minutes
+compare-replay: rust-compiler $(SECOND) $(REPLAY)
 	@$(SECOND) compare-replay --replay $(REPLAY)
 
-compare-jobs: $(SECOND) $(BENCH)
+.PHONY: compare-jobs
+## make compare-jobs     the bench program and the second program on small jobs                  4 minutes
+compare-jobs: rust-compiler $(SECOND) $(BENCH)
 	@$(SECOND) compare-jobs --bench $(BENCH)
 
-target/staticlib/libhost.a: crates.txt $(CRATE_FILES)
-	rt staticlib host
+.PHONY: clean
+## make clean            remove all that was built
+clean:
+	rm -rf target
+
+# Asked for before anything is proved, so that nobody waits for minutes to learn what is missing.
+# rustc links by the C compiler.
+c-compiler:
+	$(need-cc)
+	@:
+
+rust-compiler: c-compiler
+	$(need-rustc)
+	@:
+
+# Tells where rt is another kit than the one that the crates were last proved with.
+kit:
+	@[ '$(KIT_TOLD)' ] || scripts/kit.sh
+
+target/staticlib/libhost.a: crates.txt $(CRATE_FILES) | kit
+	$(need-rt)
+	@scripts/prove.sh staticlib host
+	@touch -c $@
 
 # rt leaves a program as it is where no crate has changed, and does not make it again if it is
 # gone: so none is deleted where another fails.
 .PRECIOUS: $(PROGRAMS)
-$(PROGRAMS) &: crates.txt $(CRATE_FILES)
-	rt check lister replay bench
-	@touch -c $(PROGRAMS)
+$(PROGRAMS): target/bin/%: crates.txt $(CRATE_FILES) | kit
+	$(need-rt)
+	@scripts/prove.sh check $*
+	@touch -c $@
 
 $(EXAMPLE): host/example.c
 $(HOST_TESTS): $(wildcard host/tests/*)
 $(EXAMPLE) $(HOST_TESTS): host/datagrams.c host/records.c $(wildcard host/*.h) $(ARCHIVE) $(LINKED)
+	$(need-cc)
+	$(call say,Compiling $@.)
 	@mkdir -p $(@D)
-	$(CC) $(CFLAGS) -o $@ $(filter %.c,$^) $(ARCHIVE)
+	@$(CC) $(CFLAGS) -o $@ $(filter %.c,$^) $(ARCHIVE)
 
 $(SECOND): $(shell find second -name '*.rs') $(ARCHIVE) $(LINKED)
+	$(need-rustc)
+	$(call say,Compiling $@.)
 	@mkdir -p $(@D)
-	$(RUSTC) $(RUSTFLAGS) --crate-name second -o $@ second/main.rs -C link-arg=$(ARCHIVE)
+	@$(RUSTC) $(RUSTFLAGS) --crate-name second -o $@ second/main.rs -C link-arg=$(ARCHIVE)
 
 # Changes when another archive is named, so that all is linked again.
 $(LINKED): FORCE
