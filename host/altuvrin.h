@@ -4,8 +4,11 @@
  *     uint64_t answer = altuvrin_datagram(bytes, length);
  *     if (altuvrin_number(answer) == ALTUVRIN_TAKEN)
  *         forward(bytes, altuvrin_size(answer));
+ *     else
+ *         log_refusal(altuvrin_number(answer), altuvrin_reason(altuvrin_number(answer)));
  *
- * Link with target/staticlib/libhost.a; no further library is needed.
+ * Link with target/staticlib/libhost.a (x86-64, made by `make archive`); no further library is
+ * needed. docs/PROTOCOL.md has the layouts and the rules.
  */
 #ifndef ALTUVRIN_H
 #define ALTUVRIN_H
@@ -73,14 +76,23 @@ enum altuvrin_answer {
 };
 
 /*
- * Reads `length` bytes as one PDU. The bytes are not changed or kept; NULL with length 0 is an
- * empty datagram. The answer is taken apart by altuvrin_number and altuvrin_size.
+ * Both calls ask one thing of the caller: from `bytes` on, `length` bytes must be readable, and
+ * nobody may write them during the call. NULL is allowed where `length` is 0; that is an empty
+ * datagram or record. Whatever stands in the bytes, there is an answer.
+ *
+ * The calls change no memory, keep none of the bytes, allocate nothing and have no state of their
+ * own: threads may make them at the same time.
+ */
+
+/*
+ * Reads `length` bytes as one PDU, whole: where it is taken, the size is `length`. The answer is
+ * taken apart by altuvrin_number and altuvrin_size.
  */
 uint64_t altuvrin_datagram(const uint8_t *bytes, size_t length);
 
 /*
- * Reads `length` bytes as one trunk record: a kind, a number, and the PDU that the kind names.
- * All else is as for altuvrin_datagram.
+ * Reads `length` bytes as one trunk record, whole: a kind, a number, and the PDU that the kind
+ * names. The answer is as for altuvrin_datagram.
  */
 uint64_t altuvrin_record(const uint8_t *bytes, size_t length);
 
@@ -94,6 +106,34 @@ static inline uint32_t altuvrin_number(uint64_t answer)
 static inline uint32_t altuvrin_size(uint64_t answer)
 {
     return (uint32_t)(answer & UINT32_MAX);
+}
+
+/* What a number says, in a few words for a log. The text is constant and is not freed. */
+static inline const char *altuvrin_reason(uint32_t number)
+{
+    switch (number) {
+    case ALTUVRIN_TAKEN: return "taken";
+    case ALTUVRIN_SHORT: return "fewer than 12 bytes";
+    case ALTUVRIN_VERSION: return "protocol version";
+    case ALTUVRIN_TYPE: return "PDU type or family";
+    case ALTUVRIN_LENGTH: return "length field";
+    case ALTUVRIN_RADIO: return "category, input source, major, detail or system";
+    case ALTUVRIN_MODULATION_LENGTH: return "modulation length";
+    case ALTUVRIN_PATTERN_LENGTH: return "pattern length";
+    case ALTUVRIN_PDU_SIZE: return "size of the PDU";
+    case ALTUVRIN_MODULATION: return "TSA level, modes, synchronization state or ID";
+    case ALTUVRIN_ENCODING: return "encoding class";
+    case ALTUVRIN_TDL_TYPE: return "TDL type";
+    case ALTUVRIN_DATA_LENGTH: return "data length";
+    case ALTUVRIN_NETWORK_HEADER: return "network header";
+    case ALTUVRIN_BODY_SIZE: return "body is not whole words";
+    case ALTUVRIN_BODY_LIMIT: return "body too long";
+    case ALTUVRIN_RECORD_KIND: return "kind of record";
+    case ALTUVRIN_RECORD_LENGTH: return "length of the record";
+    case ALTUVRIN_RECORD_PDU: return "carried bytes";
+    case ALTUVRIN_RECORD_NUMBER: return "number of the record";
+    default: return "unknown number";
+    }
 }
 
 #ifdef __cplusplus

@@ -3,36 +3,7 @@
 #include "datagrams.h"
 #include "records.h"
 
-#include <stdbool.h>
 #include <stdio.h>
-
-static const char *const REASONS[] = {
-    [ALTUVRIN_SHORT] = "fewer than 12 bytes",
-    [ALTUVRIN_VERSION] = "protocol version",
-    [ALTUVRIN_TYPE] = "PDU type or family",
-    [ALTUVRIN_LENGTH] = "length field",
-    [ALTUVRIN_RADIO] = "category, input source, major, detail or system",
-    [ALTUVRIN_MODULATION_LENGTH] = "modulation length",
-    [ALTUVRIN_PATTERN_LENGTH] = "pattern length",
-    [ALTUVRIN_PDU_SIZE] = "size of the PDU",
-    [ALTUVRIN_MODULATION] = "TSA level, modes, synchronization state or ID",
-    [ALTUVRIN_ENCODING] = "encoding class",
-    [ALTUVRIN_TDL_TYPE] = "TDL type",
-    [ALTUVRIN_DATA_LENGTH] = "data length",
-    [ALTUVRIN_NETWORK_HEADER] = "network header",
-    [ALTUVRIN_BODY_SIZE] = "body is not whole words",
-    [ALTUVRIN_BODY_LIMIT] = "body too long",
-    [ALTUVRIN_RECORD_KIND] = "kind of record",
-    [ALTUVRIN_RECORD_LENGTH] = "length of the record",
-    [ALTUVRIN_RECORD_PDU] = "carried bytes",
-    [ALTUVRIN_RECORD_NUMBER] = "number of the record",
-};
-
-static const char *reason(uint32_t number)
-{
-    bool known = number < COUNT(REASONS) && REASONS[number] != NULL;
-    return known ? REASONS[number] : "unknown number";
-}
 
 static void print(const char *what, uint64_t answer)
 {
@@ -42,7 +13,7 @@ static void print(const char *what, uint64_t answer)
     if (number == ALTUVRIN_TAKEN)
         printf("taken, %u bytes\n", altuvrin_size(answer));
     else
-        printf("refused %u: %s\n", number, reason(number));
+        printf("refused %u: %s\n", number, altuvrin_reason(number));
 }
 
 static void show(const char *what, const struct datagram *datagram)
