@@ -1,63 +1,16 @@
--- Two runs of one station, computed, which show that what the theorems speak of happens. A unit is heard, its J0.0 and its PPLI are taken and its
--- traffic is passed; it is held at 59 seconds and gone at 60. At level 4 on both sides the same J0.0 leaves the station Coarse, and traffic is not passed.
+-- The two runs of the example end as it says: the checker computes them.
 -- Assumes nothing.
-use Prim.Native.Nat.{ℕ, _*_}
-use mathlib.Core.Path.{_≡_, refl}
-use mathlib.Core.List.{List, [], _∷_, _++_}
-use lib.ListN.{replicate}
+use mathlib.Core.Path.{refl}
 use Rattle.occupancy.specs.Places.{least, wordOf}
 use Rattle.pdu.specs.Records.{transmitterOf, signalOf}
 use Rattle.pdu.specs.Words.{wordAt}
 use Rattle.pdu.specs.Reading.{wrongVersion, wrongType, wrongLength, wrongFixed, wrongSync, wrongBits, networkRules, bodyRules, transmitterRules, signalRules, readingRules, refusal, content, reading}
 use Rattle.pdu.specs.Writing.{transmitterBytes, signalHead, signalBytes}
-use Rattle.pdu.specs.declared.Header.{Header}
 use Rattle.station.specs.Units.{fresh, made, placeOf}
 use Rattle.station.specs.Hearing.{enter, renew, hearTransmitter, otherId, signalRules as stationRules, labelled, messageOf, afterJ00, afterPpli, hearMessage, hearSignal, step, heard}
 use Rattle.station.specs.Clock.{atTime, clocked}
-use Rattle.station.specs.Runs.{Call, datagram, time, after, answers}
-use Rattle.station.specs.declared.State.the-variants.{Coarse, Fine}
+use Rattle.station.specs.Example.{ExampleRuns}
 
-abbrev header : Header
-header = record { version = 6; exercise = 1; timestamp = 0; site = 1; application = 2; entity = 3; radio = 4 }
-
--- a Transmitter that is fine, of this level, with ID 9
-abbrev unit : ℕ → Call
-unit level =
-    datagram
-    (transmitterBytes (record {
-      header = header;
-      entity = record { kind = 0; domain = 0; country = 0; version = 0; nomenclature = 0 };
-      antenna = record { x = 0; y = 0; z = 0; dx = 0; dy = 0; dz = 0; pattern = 0 };
-      emission = record { state = 0; frequency = 0; bandwidth = 0; power = 0; spread = 0; crypto = 0; key = 0 };
-      sync = record { level = level; primary = 1; secondary = 0; state = 3; id = 9 };
-    }))
-
--- a type 0 Signal of that unit on net 5 with one initial word of this label
-abbrev say : ℕ → Call
-say label =
-    datagram
-    (signalBytes (record {
-      header = header;
-      encoding = 0;
-      rate = 0;
-      samples = 0;
-      network = record { npg = 0; net = 5; tsec = 255; msec = 255; «message_type» = 0; slot = 0; epoch = 0; time = 0 };
-    }) (replicate 15 0 ++ (label * 4 ∷ [])))
-
-abbrev first-run : List Call
-first-run = say 0 ∷ unit 3 ∷ say 3 ∷ say 0 ∷ say 2 ∷ say 3 ∷ time 59 ∷ say 3 ∷ time 60 ∷ say 3 ∷ time 59 ∷ []
-
-abbrev second-run : List Call
-second-run = unit 4 ∷ say 0 ∷ say 2 ∷ say 3 ∷ unit 4 ∷ []
-
--- the answers of each run, and the state that it ends in
-pub record Runs : Type 0 where
-  pub first-answers : answers (made 4 5 .station) first-run ≡ 31 ∷ 40 ∷ 35 ∷ 42 ∷ 43 ∷ 44 ∷ 46 ∷ 44 ∷ 46 ∷ 31 ∷ 36 ∷ []
-  pub first-state : after (made 4 5 .station) first-run .state ≡ Fine
-  pub first-id : after (made 4 5 .station) first-run .id ≡ 9
-  pub second-answers : answers (made 4 5 .station) second-run ≡ 40 ∷ 42 ∷ 43 ∷ 35 ∷ 41 ∷ []
-  pub second-state : after (made 4 5 .station) second-run .state ≡ Coarse
-
-pub runs : Runs
+pub runs : ExampleRuns
 unfolding transmitterBytes signalHead signalBytes transmitterOf signalOf wordAt wrongVersion wrongType wrongLength wrongFixed wrongSync wrongBits networkRules bodyRules transmitterRules signalRules readingRules refusal content reading least wordOf fresh made placeOf enter renew hearTransmitter otherId stationRules labelled messageOf afterJ00 afterPpli hearMessage hearSignal step heard atTime clocked
 runs = record { first-answers = refl; first-state = refl; first-id = refl; second-answers = refl; second-state = refl }

@@ -4,6 +4,8 @@ pub mod PlaceLaws
 pub mod PartLaws
 pub mod Table
 pub mod Changes
+pub mod RunLaws
 pub mod InNet
+pub mod HeardFirst
 pub mod Sound
 pub mod Example

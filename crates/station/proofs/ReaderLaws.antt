@@ -1,5 +1,6 @@
--- The reader's number is never 42, so a refusal is never taken for a J0.0. No rule of reading has that number, whatever the datagram, and the
--- first rule that is broken is one of them.
+-- What the station needs to know of reading, and of tests as reading has them: all that these proofs cite of pdu's laws goes through here.
+-- The law proved here: the reader's number is never 42, so a refusal is never taken for a J0.0. No rule of reading has that number, whatever
+-- the datagram, and the first rule that is broken is one of them.
 -- Assumes nothing.
 use Prim.Native.Nat.{ℕ}
 use mathlib.Core.Path.{_≡_, refl, _∙_}
@@ -14,6 +15,9 @@ use Rattle.wire.proofs.TableLaws.{both-true}
 use Rattle.pdu.specs.Records.{transmitterOf, signalOf}
 use Rattle.pdu.specs.Reading.{networkRules, bodyRules, transmitterRules, signalRules, readingRules, refusal, content, reading, bodySize}
 use Rattle.pdu.specs.declared.Reading.the-variants.{Refused, Transmitter, Signal}
+-- a test of two numbers, opened; and where a taken Signal's body stands
+pub use Rattle.pdu.proofs.ReadingLaws.{differs, agrees}
+pub use Rattle.pdu.proofs.Carried.{body-there}
 
 -- whether no rule of a list has this number
 abbrev lacks : ℕ → List Refusal → Bool
@@ -22,7 +26,8 @@ lacks k ((n given-when broken) ∷ rest) = not (eqb n k) && lacks k rest
 
 first-lacks : (k : ℕ) (rules : List Refusal) → lacks k rules ≡ true → (0 ≡ k → ⊥) → first rules ≡ k → ⊥
 first-lacks k [] e z q = z q
-first-lacks k ((n given-when true) ∷ rest) e z q = eqb-false n k (not-true (eqb n k) (both-true (not (eqb n k)) (lacks k rest) e .0)) q
+first-lacks k ((n given-when true) ∷ rest) e z q =
+    eqb-false n k (not-true (eqb n k) (both-true (not (eqb n k)) (lacks k rest) e .0)) q
 first-lacks k ((n given-when false) ∷ rest) e z q = first-lacks k rest (both-true (not (eqb n k)) (lacks k rest) e .1) z q
 
 -- a datagram that reading refuses is not refused with 42

@@ -1,47 +1,29 @@
--- What is true of every station that calls can reach: by induction on the list of calls, through the rows of the table.
+-- What is true of every station that calls can reach: by the rows of the table, and the laws of lists of calls.
 -- A new entry has a key that no held place had, a clock call frees every silent place, and no other call touches last or frees a place.
 -- Assumes nothing.
 use Prim.Native.Nat.{ℕ, _-_, _^_, _<_, _≤_}
 use mathlib.Core.Path.{_≡_, refl, sym, ap, _∙_, subst}
-use mathlib.Core.Bool.{true, true≢false, false≢true}
-use mathlib.Core.List.{List, [], _∷_}
+use mathlib.Core.Bool.{true, true≢false}
+use mathlib.Core.List.{List}
 use mathlib.Core.Logic.{⊎-elim}
 use lib.ListN.{length, getD}
 use lib.Pow.{pow-pos}
 use native.Mathlib.Omega.{arith}
 use Rattle.occupancy.specs.Places.{held}
-use Rattle.occupancy.proofs.WordLaws.{held-past}
-use Rattle.station.specs.Numbers.{absence}
-use Rattle.station.specs.Units.{blank, fresh, made, unitAt}
+use Rattle.pdu.specs.declared.Transmitter.{Transmitter}
+use Rattle.station.specs.Units.{clockOf, keyOf, blank, fresh, made, unitAt}
+use Rattle.station.specs.Plain.{Sized, HeldAt, Stranger}
 use Rattle.station.specs.Runs.{Call, called, after}
+use Rattle.station.specs.Table.{SameElse, Entered, Table, nothing, entered, again, joined, positioned, ticked}
+use Rattle.station.specs.Claims.{Sound}
 use Rattle.station.specs.declared.Unit.{Unit}
 use Rattle.station.specs.declared.Station.{Station}
-use Rattle.station.proofs.Table.{SameElse, Table, unread, no-room, entered, again, stranger, other-net, other-id, not-fine, not-in, joined, positioned, passed, back, ticked, only-by-rules}
-use Rattle.station.proofs.Changes.{same-or-not}
-use Rattle.station.proofs.InNet.{of-made}
-
--- place i is one of the sixteen and held
-pub record HeldAt (s : Station) (i : ℕ) : Type 0 where
-  pub place : i < 16
-  pub taken : held (s .used) i ≡ true
-
-pub record Sound (s : Station) : Type 0 where
-  -- There are sixteen places, and no place beyond them is held.
-  pub sized : length (s .units) ≡ 16
-  pub word : s .used < 2 ^ 16
-  -- No two held places have the same key.
-  pub distinct : (i j : ℕ) → HeldAt s i → HeldAt s j → unitAt s i .key ≡ unitAt s j .key → i ≡ j
-  -- No unit was last heard after the present second.
-  pub heard : (i : ℕ) → HeldAt s i → unitAt s i .last ≤ s .clock
-  -- No unit that is held has been silent for 60 seconds or more.
-  pub present : (i : ℕ) → HeldAt s i → s .clock - unitAt s i .last < absence
-  -- A unit that is In is fine.
-  pub inside : (i : ℕ) → HeldAt s i → unitAt s i .inside ≡ true → unitAt s i .state ≡ 3
+use Rattle.station.proofs.Table.{only-by-rules}
+use Rattle.station.proofs.Changes.{same-or-not, same-clock}
+use Rattle.station.proofs.RunLaws.{of-made, kept-by-all}
+use Rattle.station.proofs.HeardFirst.{nobody, key-kept}
 
 -- ---- a fresh station
-
-nobody : (s : Station) → s .used ≡ 0 → (i : ℕ) → HeldAt s i → ⊥
-nobody s e i h = false≢true (sym (held-past 0 i (pow-pos i)) ∙ subst (λ (w : ℕ). held w i ≡ true) e (h .taken))
 
 fresh-sound : (level net : ℕ) → Sound (fresh level net)
 unfolding fresh
@@ -58,144 +40,150 @@ fresh-sound level net =
 
 -- ---- one call
 
--- what holds of the unit in place i, and of every other unit as it was, holds of all
-each-place : (s s′ : Station) (k : ℕ) → SameElse k s s′ → (P : Unit → Type 0) → P (unitAt s′ k) → ((i : ℕ) → HeldAt s i → P (unitAt s i)) → (i : ℕ) → HeldAt s′ i → P (unitAt s′ i)
-each-place s s′ k same P new old i h =
-    ⊎-elim
-    (λ (q : i ≡ k). subst (λ (j : ℕ). P (unitAt s′ j)) (sym q) new)
-    (λ q. subst P (sym (same .entry i q)) (old i (record { place = h .place; taken = sym (same .word i q) ∙ h .taken })))
-    (same-or-not i k)
+-- what is asked of a unit by itself, in a station whose time is now
+record Present (now : ℕ) (u : Unit) : Type 0 where
+  heard : u .last ≤ now
+  present : now - u .last < 60
+  inside : u .inside ≡ true → u .state ≡ 3
 
--- where every entry keeps its key and the word is the same, keys stay apart
-same-keys : (s s′ : Station) → s′ .used ≡ s .used → ((i : ℕ) → unitAt s′ i .key ≡ unitAt s i .key) → Sound s
-    → (i j : ℕ) → HeldAt s′ i → HeldAt s′ j → unitAt s′ i .key ≡ unitAt s′ j .key → i ≡ j
-same-keys s s′ w keys sound i j h k e =
-    sound .distinct i j
-    (record { place = h .place; taken = subst (λ (n : ℕ). held n i ≡ true) w (h .taken) })
-    (record { place = k .place; taken = subst (λ (n : ℕ). held n j ≡ true) w (k .taken) })
-    (sym (keys i) ∙ e ∙ keys j)
+-- every unit that is held is present
+abbrev AllPresent : Station → Type 0
+AllPresent s = (i : ℕ) → HeldAt s i → Present (clockOf s) (unitAt s i)
 
-key-at : (s s′ : Station) (k : ℕ) → SameElse k s s′ → unitAt s′ k .key ≡ unitAt s k .key → (i : ℕ) → unitAt s′ i .key ≡ unitAt s i .key
-key-at s s′ k same e i =
-    ⊎-elim
-    (λ (q : i ≡ k). subst (λ (j : ℕ). unitAt s′ j .key ≡ unitAt s j .key) (sym q) e)
-    (λ q. ap (λ (u : Unit). u .key) (same .entry i q))
-    (same-or-not i k)
+-- no two held places have the same key
+abbrev Distinct : Station → Type 0
+Distinct s = (i j : ℕ) → HeldAt s i → HeldAt s j → unitAt s i .key ≡ unitAt s j .key → i ≡ j
 
-keeps : {s : Station} {c : Call} {n : ℕ} {s′ : Station} → Table s c n s′ → Sound s → Sound s′
-keeps (unread n e) sound = sound
-keeps (no-room t e x y) sound = sound
-keeps {s = s} {s′ = s′} (entered t k e x y z) sound =
-    let old-key : (i : ℕ) → HeldAt s′ i → (i ≡ k → ⊥) → unitAt s′ i .key ≡ unitAt s′ k .key → ⊥ =
-    (λ i h q f.
-    x i (h .place) (sym (z .others .word i q) ∙ h .taken) (sym (ap (λ (u : Unit). u .key) (z .others .entry i q)) ∙ f ∙ z .key)) in
+present-in : {s : Station} → Sound s → AllPresent s
+present-in sound i h = record { heard = sound .heard i h; present = sound .present i h; inside = sound .inside i h }
+
+make-sound : (s : Station) → Sized s → s .used < 2 ^ 16 → Distinct s → AllPresent s → Sound s
+make-sound s sized word distinct all =
     record {
-      sized = z .others .size ∙ sound .sized;
-      word = z .word-fits (sound .word);
-      distinct = λ i j h g f.
-          ⊎-elim
-          (λ (p : i ≡ k).
-          ⊎-elim
-          (λ (q : j ≡ k). p ∙ sym q)
-          (λ q. absurd (old-key j g q (sym f ∙ ap (λ (m : ℕ). unitAt s′ m .key) p)))
-          (same-or-not j k))
-          (λ p.
-          ⊎-elim
-          (λ (q : j ≡ k). absurd (old-key i h p (f ∙ ap (λ (m : ℕ). unitAt s′ m .key) q)))
-          (λ q.
-          sound .distinct i j
-          (record { place = h .place; taken = sym (z .others .word i p) ∙ h .taken })
-          (record { place = g .place; taken = sym (z .others .word j q) ∙ g .taken })
-          (sym (ap (λ (u : Unit). u .key) (z .others .entry i p)) ∙ f ∙ ap (λ (u : Unit). u .key) (z .others .entry j q)))
-          (same-or-not j k))
-          (same-or-not i k);
-      heard = each-place s s′ k (z .others) (λ u. u .last ≤ s′ .clock) (omega (arith, z .last, z .own .clock)) (λ i h. omega (arith, sound .heard i h, z .own .clock));
-      present =
-          each-place s s′ k (z .others) (λ u. s′ .clock - u .last < absence) (omega (arith, z .last, z .own .clock)) (λ i h. omega (arith, sound .present i h, z .own .clock));
-      inside =
-          each-place s s′ k (z .others) (λ u. u .inside ≡ true → u .state ≡ 3) (λ w. absurd (true≢false (sym w ∙ z .outside))) (sound .inside);
+      sized = sized;
+      word = word;
+      distinct = distinct;
+      heard = λ i h. all i h .heard;
+      present = λ i h. all i h .present;
+      inside = λ i h. all i h .inside;
     }
-keeps {s = s} {s′ = s′} (again t k e x y) sound =
-    let at-k : HeldAt s k = record { place = x .place; taken = x .taken } in
-    record {
-      sized = y .others .size ∙ sound .sized;
-      word = subst (λ (w : ℕ). w < 2 ^ 16) (sym (y .word)) (sound .word);
-      distinct = same-keys s s′ (y .word) (key-at s s′ k (y .others) (y .key)) sound;
-      heard =
-          each-place s s′ k (y .others) (λ u. u .last ≤ s′ .clock) (omega (arith, y .last, y .own .clock, sound .heard k at-k)) (λ i h. omega (arith, sound .heard i h, y .own .clock));
-      present =
-          each-place s s′ k (y .others) (λ u. s′ .clock - u .last < absence)
-          (omega (arith, y .last, y .own .clock, sound .present k at-k))
-          (λ i h. omega (arith, sound .present i h, y .own .clock));
-      inside =
-          each-place s s′ k (y .others) (λ u. u .inside ≡ true → u .state ≡ 3) (λ w. y .state ∙ y .inside .0 w .1) (sound .inside);
-    }
-keeps (stranger g n e x) sound = sound
-keeps (other-net g n i e x y) sound = sound
-keeps (other-id g n i e x y z) sound = sound
-keeps (not-fine g n i e x y z) sound = sound
-keeps (not-in g n i e x y z) sound = sound
-keeps {s = s} {s′ = s′} (joined g n k e x y z u) sound =
-    let unit : (i : ℕ) → unitAt s′ i ≡ unitAt s i = (λ i. ap (λ (us : List Unit). getD us i blank) (u .entries)) in
-    let was : (i : ℕ) → HeldAt s′ i → HeldAt s i = (λ i h. record { place = h .place; taken = subst (λ (w : ℕ). held w i ≡ true) (u .word) (h .taken) }) in
-    record {
-      sized = ap length (u .entries) ∙ sound .sized;
-      word = subst (λ (w : ℕ). w < 2 ^ 16) (sym (u .word)) (sound .word);
-      distinct = same-keys s s′ (u .word) (λ i. ap (λ (v : Unit). v .key) (unit i)) sound;
-      heard = λ i h. omega (arith, sound .heard i (was i h), ap (λ (v : Unit). v .last) (unit i), u .clock);
-      present = λ i h. omega (arith, sound .present i (was i h), ap (λ (v : Unit). v .last) (unit i), u .clock);
-      inside = λ i h w. ap (λ (v : Unit). v .state) (unit i) ∙ sound .inside i (was i h) (sym (ap (λ (v : Unit). v .inside) (unit i)) ∙ w);
-    }
-keeps {s = s} {s′ = s′} (positioned g n k e x y z u) sound = record {
-  sized = u .others .size ∙ sound .sized;
-  word = subst (λ (w : ℕ). w < 2 ^ 16) (sym (u .word)) (sound .word);
-  distinct = same-keys s s′ (u .word) (key-at s s′ k (u .others) (u .key)) sound;
-  heard = each-place s s′ k (u .others) (λ v. v .last ≤ s′ .clock) (omega (arith, u .last, u .own .clock)) (λ i h. omega (arith, sound .heard i h, u .own .clock));
-  present =
-      each-place s s′ k (u .others) (λ v. s′ .clock - v .last < absence) (omega (arith, u .last, u .own .clock)) (λ i h. omega (arith, sound .present i h, u .own .clock));
-  inside = each-place s s′ k (u .others) (λ v. v .inside ≡ true → v .state ≡ 3) (λ w. u .state ∙ z) (sound .inside);
-}
-keeps (passed g n i e x y z u) sound = sound
-keeps (back x) sound = sound
-keeps {s = s} {s′ = s′} (ticked x y) sound =
-    let unit : (i : ℕ) → unitAt s′ i ≡ unitAt s i = (λ i. ap (λ (us : List Unit). getD us i blank) (y .entries)) in
-    let was : (i : ℕ) → HeldAt s′ i → HeldAt s i = (λ i h. record { place = h .place; taken = y .stays i (h .place) .0 (h .taken) .0 }) in
-    record {
-      sized = ap length (y .entries) ∙ sound .sized;
-      word = y .word-fits;
-      distinct = λ i j h k f.
-          sound .distinct i j (was i h) (was j k) (sym (ap (λ (v : Unit). v .key) (unit i)) ∙ f ∙ ap (λ (v : Unit). v .key) (unit j));
-      heard = λ i h. omega (arith, sound .heard i (was i h), ap (λ (v : Unit). v .last) (unit i), y .clock, x);
-      present = λ i h. omega (arith, y .stays i (h .place) .0 (h .taken) .1, ap (λ (v : Unit). v .last) (unit i), y .clock);
-      inside = λ i h w. ap (λ (v : Unit). v .state) (unit i) ∙ sound .inside i (was i h) (sym (ap (λ (v : Unit). v .inside) (unit i)) ∙ w);
-    }
+
+-- a call that changes the unit in place k alone
+module _ (s s′ : Station) (k : ℕ) (same : SameElse k s s′) (sound : Sound s) where
+  -- whoever is held in another place was held there
+  was-held : (i : ℕ) → (i ≡ k → ⊥) → HeldAt s′ i → HeldAt s i
+  was-held i q h = record { place = h .place; taken = sym (same .word i q) ∙ h .taken }
+
+  -- all are present where that unit is
+  each-present : clockOf s′ ≡ clockOf s → Present (clockOf s′) (unitAt s′ k) → AllPresent s′
+  each-present now new i h =
+      ⊎-elim
+      (λ (q : i ≡ k). subst (λ (j : ℕ). Present (clockOf s′) (unitAt s′ j)) (sym q) new)
+      (λ q.
+      subst (λ (u : Unit). Present (clockOf s′) u) (sym (same .entry i q))
+      (subst (λ (t : ℕ). Present t (unitAt s i)) (sym now) (present-in sound i (was-held i q h))))
+      (same-or-not i k)
+
+  -- a new entry's key is that of no other place
+  new-key : (t : Transmitter) → Stranger s (keyOf (t .header)) → unitAt s′ k .key ≡ keyOf (t .header) → Distinct s′
+  new-key t alone new i j h g f =
+      ⊎-elim
+      (λ (p : i ≡ k).
+      ⊎-elim
+      (λ (q : j ≡ k). p ∙ sym q)
+      (λ q. absurd (other j q g (sym f ∙ ap (λ (m : ℕ). unitAt s′ m .key) p)))
+      (same-or-not j k))
+      (λ p.
+      ⊎-elim
+      (λ (q : j ≡ k). absurd (other i p h (f ∙ ap (λ (m : ℕ). unitAt s′ m .key) q)))
+      (λ q. sound .distinct i j (was-held i p h) (was-held j q g) (sym (key-of i p) ∙ f ∙ key-of j q))
+      (same-or-not j k))
+      (same-or-not i k)
+    where
+      key-of : (i : ℕ) → (i ≡ k → ⊥) → unitAt s′ i .key ≡ unitAt s i .key
+      key-of i q = ap (λ (u : Unit). u .key) (same .entry i q)
+
+      other : (i : ℕ) → (i ≡ k → ⊥) → HeldAt s′ i → unitAt s′ i .key ≡ unitAt s′ k .key → ⊥
+      other i q h f = alone i (was-held i q h) (sym (key-of i q) ∙ f ∙ new)
+
+  -- that unit keeps its key, and no place is taken or freed
+  renewed-sound : s′ .used ≡ s .used
+      → unitAt s′ k .key ≡ unitAt s k .key
+      → clockOf s′ ≡ clockOf s
+      → Present (clockOf s′) (unitAt s′ k)
+      → Sound s′
+  renewed-sound word key now new =
+      let was : (i : ℕ) → HeldAt s′ i → HeldAt s i =
+      (λ i h. record { place = h .place; taken = subst (λ (n : ℕ). held n i ≡ true) word (h .taken) }) in
+      let keys = key-kept s s′ k same key in
+      make-sound s′ (same .size ∙ sound .sized) (subst (λ (w : ℕ). w < 2 ^ 16) (sym word) (sound .word))
+      (λ i j h g f. sound .distinct i j (was i h) (was j g) (sym (keys i) ∙ f ∙ keys j))
+      (each-present now new)
+
+-- a call that leaves the entries as they were and takes no place
+same-entries : (s s′ : Station)
+    → Sound s
+    → s′ .units ≡ s .units
+    → s′ .used < 2 ^ 16
+    → ((i : ℕ) → HeldAt s′ i → HeldAt s i)
+    → clockOf s ≤ clockOf s′
+    → ((i : ℕ) → HeldAt s′ i → clockOf s′ - unitAt s i .last < 60)
+    → Sound s′
+same-entries s s′ sound entries word was now present =
+    let unit : (i : ℕ) → unitAt s′ i ≡ unitAt s i = (λ i. ap (λ (us : List Unit). getD us i blank) entries) in
+    let key : (i : ℕ) → unitAt s′ i .key ≡ unitAt s i .key = (λ i. ap (λ (u : Unit). u .key) (unit i)) in
+    make-sound s′ (ap length entries ∙ sound .sized) word
+    (λ i j h g f. sound .distinct i j (was i h) (was j g) (sym (key i) ∙ f ∙ key j))
+    (λ i h.
+    subst (λ (u : Unit). Present (clockOf s′) u) (sym (unit i)) (record {
+      heard = omega (arith, sound .heard i (was i h), now);
+      present = present i h;
+      inside = sound .inside i (was i h);
+    }))
+
+keeps : (s : Station) → Sized s → (c : Call) → Sound s → Sound (called s c .station)
+keeps s sized c sound = go (only-by-rules s sized c)
+  where
+    go : {c : Call} {n : ℕ} {s′ : Station} → Table s c n s′ → Sound s′
+    go (nothing row) = sound
+    go {s′ = s′} (entered t k e x y z) =
+        let now = same-clock (z .own) in
+        make-sound s′ (z .others .size ∙ sound .sized) (z .word-fits (sound .word))
+        (new-key s s′ k (z .others) sound t x (z .key))
+        (each-present s s′ k (z .others) sound now (record {
+          heard = omega (arith, z .last, now);
+          present = omega (arith, z .last, now);
+          inside = λ w. absurd (true≢false (sym w ∙ z .outside));
+        }))
+    go {s′ = s′} (again t k e x y) =
+        let now = same-clock (y .own) in
+        renewed-sound s s′ k (y .others) sound (y .word) (y .key) now (record {
+          heard = omega (arith, y .last, now, sound .heard k (x .there));
+          present = omega (arith, y .last, now, sound .present k (x .there));
+          inside = λ w. y .state ∙ y .inside .0 w .1;
+        })
+    go {s′ = s′} (joined g k e x y z u) =
+        let was : (i : ℕ) → HeldAt s′ i → HeldAt s i =
+        (λ i h. record { place = h .place; taken = subst (λ (w : ℕ). held w i ≡ true) (u .word) (h .taken) }) in
+        same-entries s s′ sound (u .entries) (subst (λ (w : ℕ). w < 2 ^ 16) (sym (u .word)) (sound .word)) was
+        (omega (arith, u .clock))
+        (λ i h. omega (arith, sound .present i (was i h), u .clock))
+    go {s′ = s′} (positioned g k e x y z u) =
+        let now = same-clock (u .own) in
+        renewed-sound s s′ k (u .others) sound (u .word) (u .key) now (record {
+          heard = omega (arith, u .last, now);
+          present = omega (arith, u .last, now);
+          inside = λ w. u .state ∙ z;
+        })
+    go {s′ = s′} (ticked x y) =
+        same-entries s s′ sound (y .entries) (y .word-fits)
+        (λ i h. record { place = h .place; taken = y .stays i (h .place) .0 (h .taken) .0 })
+        (omega (arith, x, y .clock))
+        (λ i h. omega (arith, y .stays i (h .place) .0 (h .taken) .1, y .clock))
 
 -- ---- every list of calls
 
-pub stays-sound : (s : Station) (calls : List Call) → Sound s → Sound (after s calls)
-stays-sound s [] sound = sound
-stays-sound s (c ∷ cs) sound = stays-sound (called s c .station) cs (keeps (only-by-rules s (sound .sized) c) sound)
-
 -- Whatever the calls, a station from the maker stays sound.
 pub always-sound : (level net : ℕ) (calls : List Call) → Sound (after (made level net .station) calls)
-always-sound level net calls = of-made (λ s. Sound (after s calls)) (λ l n. stays-sound (fresh l n) calls (fresh-sound l n)) level net
-
--- The clock never goes back, whatever the call and the station.
-pub clock-never-back : (s : Station) → length (s .units) ≡ 16 → (c : Call) → s .clock ≤ called s c .station .clock
-clock-never-back s sized c = go (only-by-rules s sized c)
-  where
-    go : {c : Call} {n : ℕ} {s′ : Station} → Table s c n s′ → s .clock ≤ s′ .clock
-    go (unread n e) = omega arith
-    go (no-room t e x y) = omega arith
-    go (entered t i e x y z) = omega (arith, z .own .clock)
-    go (again t i e x y) = omega (arith, y .own .clock)
-    go (stranger g n e x) = omega arith
-    go (other-net g n i e x y) = omega arith
-    go (other-id g n i e x y z) = omega arith
-    go (not-fine g n i e x y z) = omega arith
-    go (not-in g n i e x y z) = omega arith
-    go (joined g n i e x y z u) = omega (arith, u .clock)
-    go (positioned g n i e x y z u) = omega (arith, u .own .clock)
-    go (passed g n i e x y z u) = omega arith
-    go (back x) = omega arith
-    go (ticked x y) = omega (arith, y .clock)
+always-sound level net calls =
+    of-made (λ s. Sound (after s calls)) (λ l n. kept-by-all Sound keeps (fresh l n) calls (fresh-sound l n .sized) (fresh-sound l n)) level net

@@ -6,7 +6,7 @@ use lib.Dec.{leb, ltb}
 use Rattle.wire.specs.First.{_given-when_}
 use Rattle.occupancy.specs.Places.{places, held, wordOf}
 use Rattle.station.specs.Numbers.{absence}
-use Rattle.station.specs.Units.{unitAt}
+use Rattle.station.specs.Units.{clockOf, withClock, unitAt}
 use Rattle.station.specs.Hearing.{answering, unless}
 use Rattle.station.specs.declared.Station.{Station}
 use Rattle.station.specs.declared.Heard.{Heard}
@@ -21,17 +21,8 @@ stays s t i = held (s .used) i && not (silent t (unitAt s i .last))
 
 -- "now = t, and every entry with t − last of 60 or more is removed": the places are freed, and what stands in them is left
 unfoldable pub atTime : Station → ℕ → Station
-atTime s t =
-    record {
-      level = s .level;
-      net = s .net;
-      id = s .id;
-      state = s .state;
-      clock = t;
-      used = wordOf (stays s t) places;
-      units = s .units;
-    }
+atTime s t = record { units = s .units; own = withClock (s .own) t; used = wordOf (stays s t) places }
 
 -- "Clock t: 36 if t is less than now. Else .. answer 46"
 unfoldable pub clocked : Station → ℕ → Heard
-clocked s t = unless s ((36 given-when ltb t (s .clock)) ∷ []) (answering 46 (atTime s t))
+clocked s t = unless s ((36 given-when ltb t (clockOf s)) ∷ []) (answering 46 (atTime s t))

@@ -13,10 +13,13 @@ use Rattle.pdu.specs.declared.Word.{Word}
 use Rattle.pdu.specs.declared.Word.the-variants.{Absent, Here}
 use Rattle.pdu.specs.declared.Reading.{Reading}
 use Rattle.pdu.specs.declared.Reading.the-variants.{Refused, Transmitter as aTransmitter, Signal as aSignal}
-use Rattle.station.specs.Numbers.{fine, anyId, coarseLevel, ppliLabel}
-use Rattle.station.specs.Units.{keyOf, unitAt, placeOf, known, withUnit, withNew}
+use Rattle.pdu.specs.Numbers.{fine}
+use Rattle.station.specs.Numbers.{anyId, coarseLevel, ppliLabel}
+use Rattle.station.specs.Units.{netOf, idOf, stateOf, clockOf, withStanding, keyOf, unitAt, placeOf, known, withOwn, withUnit, withNew}
 use Rattle.station.specs.declared.State.{State}
 use Rattle.station.specs.declared.State.the-variants.{Waiting, Coarse, Fine}
+use Rattle.station.specs.declared.Standing.{Standing}
+use Rattle.station.specs.declared.Own.{Own}
 use Rattle.station.specs.declared.Unit.{Unit}
 use Rattle.station.specs.declared.Station.{Station}
 use Rattle.station.specs.declared.Heard.{Heard}
@@ -61,7 +64,7 @@ renewed u t =
 unfoldable pub enter : Station → Transmitter → Heard
 enter s t =
     unless s ((30 given-when not (ltb (freePlace (s .used)) places)) ∷ [])
-    (answering 40 (withNew s (freePlace (s .used)) (newUnit (s .clock) t)))
+    (answering 40 (withNew s (freePlace (s .used)) (newUnit (clockOf s) t)))
 
 -- "key known: .. answer 41"
 unfoldable pub renew : Station → ℕ → Transmitter → Heard
@@ -85,8 +88,8 @@ senderOf s g = unitAt s (placeOf s (keyOf (g .header)))
 unfoldable pub signalRules : Station → Signal → List Refusal
 signalRules s g =
     (31 given-when not (known s (keyOf (g .header))))
-    ∷ (32 given-when not (eqb (g .network .net) (s .net)))
-    ∷ (33 given-when otherId (s .id) (senderOf s g .id))
+    ∷ (32 given-when not (eqb (g .network .net) (netOf s)))
+    ∷ (33 given-when otherId (idOf s) (senderOf s g .id))
     ∷ []
 
 -- "label 0, sublabel 0 (J0.0)", "label 2 (PPLI)", "all else"
@@ -113,18 +116,17 @@ bothCoarse own sender = eqb own coarseLevel && eqb sender coarseLevel
 abbrev pub idAfter : ℕ → ℕ → ℕ
 idAfter own sender = cond (eqb own anyId) sender own
 
+-- where the station stands after a J0.0 from the sender u
+abbrev pub standingAfter : Own → Unit → Standing
+standingAfter own u =
+    record {
+      id = idAfter (own .standing .id) (u .id);
+      state = stateAfter (bothCoarse (own .settings .level) (u .level)) (own .standing .state);
+    }
+
 -- the station after a J0.0 from the sender u
 unfoldable pub afterJ00 : Station → Unit → Station
-afterJ00 s u =
-    record {
-      level = s .level;
-      net = s .net;
-      id = idAfter (s .id) (u .id);
-      state = stateAfter (bothCoarse (s .level) (u .level)) (s .state);
-      clock = s .clock;
-      used = s .used;
-      units = s .units;
-    }
+afterJ00 s u = withOwn s (withStanding (s .own) (standingAfter (s .own) u))
 
 -- the sender's entry after a PPLI: "then In, last = now"
 abbrev pub heardUnit : ℕ → Unit → Unit
@@ -133,7 +135,7 @@ heardUnit now u =
 
 -- the station after a PPLI from the sender in place i
 unfoldable pub afterPpli : Station → ℕ → Station
-afterPpli s i = withUnit s i (heardUnit (s .clock) (unitAt s i))
+afterPpli s i = withUnit s i (heardUnit (clockOf s) (unitAt s i))
 
 -- whether a station's state is Fine
 abbrev pub isFine : State → Bool
@@ -147,7 +149,7 @@ notFine u = 34 given-when not (eqb (u .state) fine)
 
 -- 35: "unless the sender is In and the station Fine"
 abbrev pub notIn : Station → Unit → Refusal
-notIn s u = 35 given-when not (u .inside && isFine (s .state))
+notIn s u = 35 given-when not (u .inside && isFine (stateOf s))
 
 -- what a Signal that passed 31, 32 and 33 does, by what it says, for the sender in place i
 unfoldable pub hearMessage : Station → ℕ → Message → Heard

@@ -1,4 +1,4 @@
--- The numbers of document 01 that the station's rules use, each named once.
+-- The numbers of document 01 that the station's own rules use, each named once. The places stand in occupancy, the synchronization states in pdu.
 use Prim.Native.Nat.{ℕ}
 
 -- 37: the highest level and net of a station
@@ -8,11 +8,7 @@ lastLevel = 4
 abbrev pub lastNet : ℕ
 lastNet = 127
 
--- the synchronization state of a sender that is fine (01, byte 107)
-abbrev pub fine : ℕ
-fine = 3
-
--- the ID that matches all (01: "zero ID matches all")
+-- the ID that matches all (01: "zero ID matches all"), and that a station has first
 abbrev pub anyId : ℕ
 anyId = 0
 

@@ -23,32 +23,13 @@ senderKey (aSignal g n) = keyOf (g .header)
 abbrev pub slot : ℕ → ℕ
 slot i = i % places
 
--- a station's own fields, and what stands in place i
+-- a station's own fields and word, and what stands in place i
 abbrev pub partOf : Station → ℕ → Part
-partOf s i =
-    record {
-      level = s .level;
-      net = s .net;
-      used = s .used;
-      id = s .id;
-      state = s .state;
-      clock = s .clock;
-      place = i;
-      unit = unitAt s (slot i);
-    }
+partOf s i = record { own = s .own; used = s .used; place = i; unit = unitAt s (slot i) }
 
--- the station with a part's own fields and these sixteen entries
+-- the station with a part's own fields and word, and these sixteen entries
 abbrev pub stationOf : Part → List Unit → Station
-stationOf p units =
-    record {
-      level = p .level;
-      net = p .net;
-      used = p .used;
-      id = p .id;
-      state = p .state;
-      clock = p .clock;
-      units = units;
-    }
+stationOf p units = record { units = units; own = p .own; used = p .used }
 
 -- what a call answers and leaves, where it made this outcome of a part of the station s
 abbrev pub putBack : Station → Outcome → Heard

@@ -1,13 +1,15 @@
--- The station's sixteen places and what stands in them.
+-- What a station is: its own fields, its sixteen places, and what stands in them.
 use Prim.Native.Nat.{ℕ, _+_, _*_}
 use mathlib.Core.Bool.{Bool, false, cond, _&&_, _||_}
 use lib.ListN.{getD, set, replicate}
 use lib.Dec.{eqb, ltb}
 use Rattle.occupancy.specs.Places.{places, held, least, heldCount, withPlace}
 use Rattle.pdu.specs.declared.Header.{Header}
-use Rattle.station.specs.Numbers.{lastLevel, lastNet}
+use Rattle.station.specs.Numbers.{lastLevel, lastNet, anyId}
 use Rattle.station.specs.declared.State.{State}
 use Rattle.station.specs.declared.State.the-variants.{Waiting, Coarse, Fine}
+use Rattle.station.specs.declared.Standing.{Standing}
+use Rattle.station.specs.declared.Own.{Own}
 use Rattle.station.specs.declared.Unit.{Unit}
 use Rattle.station.specs.declared.Station.{Station}
 use Rattle.station.specs.declared.Made.{Made}
@@ -16,18 +18,51 @@ use Rattle.station.specs.declared.Seen.the-variants.{Unknown, Known}
 use Rattle.station.specs.declared.Place.{Place}
 use Rattle.station.specs.declared.Place.the-variants.{Free, Held}
 
--- the key of a PDU's unit: bytes 12 to 19 as one number (01: site, application, entity and radio "together are the unit's key")
-abbrev pub keyOf : Header → ℕ
-keyOf h = ((h .site * 65536 + h .application) * 65536 + h .entity) * 65536 + h .radio
+-- ---- the station's own fields
+
+-- 01: "It has a level, a net, an ID, a state, a 64-bit clock"
+abbrev pub levelOf : Station → ℕ
+levelOf s = s .own .settings .level
+
+abbrev pub netOf : Station → ℕ
+netOf s = s .own .settings .net
+
+abbrev pub idOf : Station → ℕ
+idOf s = s .own .standing .id
+
+abbrev pub stateOf : Station → State
+stateOf s = s .own .standing .state
+
+abbrev pub clockOf : Station → ℕ
+clockOf s = s .own .clock
+
+-- own fields with another standing, and at another second; their settings stay
+abbrev pub withStanding : Own → Standing → Own
+withStanding own standing = record { clock = own .clock; standing = standing; settings = own .settings }
+
+abbrev pub withClock : Own → ℕ → Own
+withClock own t = record { clock = t; standing = own .standing; settings = own .settings }
+
+-- 01: "an ID (first 0), a state (first Waiting), a clock (first 0)"
+abbrev pub freshOwn : ℕ → ℕ → Own
+freshOwn level net =
+    record { clock = 0; standing = record { id = anyId; state = Waiting }; settings = record { level = level; net = net } }
+
+-- a number for each state: 01's synchronization states 2 and 3, and 0 for Waiting
+abbrev pub stateNumber : State → ℕ
+stateNumber Waiting = 0
+stateNumber Coarse = 2
+stateNumber Fine = 3
+
+-- ---- a station as it is made
 
 -- what a place of a fresh station holds
 abbrev pub blank : Unit
-blank = record { key = 0; level = 0; state = 0; id = 0; inside = false; last = 0 }
+blank = record { key = 0; last = 0; id = 0; level = 0; state = 0; inside = false }
 
--- a fresh station (01: "an ID (first 0), a state (first Waiting), a clock (first 0) and 16 places")
+-- a fresh station: its own fields, and 16 places, all free
 unfoldable pub fresh : ℕ → ℕ → Station
-fresh level net =
-    record { level = level; net = net; id = 0; state = Waiting; clock = 0; used = 0; units = replicate places blank }
+fresh level net = record { units = replicate places blank; own = freshOwn level net; used = 0 }
 
 -- what the maker answers: 0; or 37, with a station of level 0, net 0
 unfoldable pub made : ℕ → ℕ → Made
@@ -36,11 +71,11 @@ made level net =
     (record { station = fresh 0 0; answer = 37 })
     (record { station = fresh level net; answer = 0 })
 
--- a number for each state: 01's synchronization states 2 and 3, and 0 for Waiting
-abbrev pub stateNumber : State → ℕ
-stateNumber Waiting = 0
-stateNumber Coarse = 2
-stateNumber Fine = 3
+-- ---- places
+
+-- the key of a PDU's unit: bytes 12 to 19 as one number (01: site, application, entity and radio "together are the unit's key")
+abbrev pub keyOf : Header → ℕ
+keyOf h = ((h .site * 65536 + h .application) * 65536 + h .entity) * 65536 + h .radio
 
 -- what stands in place i, whether or not the place is held
 abbrev pub unitAt : Station → ℕ → Unit
@@ -58,31 +93,19 @@ placeOf s key = least (holds s key) places
 abbrev pub known : Station → ℕ → Bool
 known s key = ltb (placeOf s key) places
 
+-- the station with other own fields
+abbrev pub withOwn : Station → Own → Station
+withOwn s own = record { units = s .units; own = own; used = s .used }
+
 -- the station with the entry u in place i
 abbrev pub withUnit : Station → ℕ → Unit → Station
-withUnit s i u =
-    record {
-      level = s .level;
-      net = s .net;
-      id = s .id;
-      state = s .state;
-      clock = s .clock;
-      used = s .used;
-      units = set (s .units) i u;
-    }
+withUnit s i u = record { units = set (s .units) i u; own = s .own; used = s .used }
 
 -- the station with the entry u in place i, which was free
 abbrev pub withNew : Station → ℕ → Unit → Station
-withNew s i u =
-    record {
-      level = s .level;
-      net = s .net;
-      id = s .id;
-      state = s .state;
-      clock = s .clock;
-      used = withPlace (s .used) i;
-      units = set (s .units) i u;
-    }
+withNew s i u = record { units = set (s .units) i u; own = s .own; used = withPlace (s .used) i }
+
+-- ---- what others see of it
 
 -- how many units a station holds
 abbrev pub unitsHeld : Station → ℕ

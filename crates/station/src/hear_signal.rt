@@ -1,14 +1,16 @@
 // Hearing a Signal.
 ghost use mathlib.Core.Path.{_≡_};
 ghost use Prim.Native.Nat.{ℕ};
-ghost use Rattle.station.specs.Hearing.{otherId, labelled, messageOf, idAfter, stateAfter, afterJ00, heardUnit, isFine, hearMessage, hearSignal};
+ghost use Rattle.station.specs.Hearing.{otherId, labelled, messageOf, idAfter, stateAfter, standingAfter, heardUnit, isFine, hearMessage, hearSignal};
 ghost use Rattle.station.specs.Units.{keyOf, placeOf};
 ghost use Rattle.station.specs.Parts.{slot, partOf, putBack};
 ghost use Rattle.station.specs.declared.Station.{Station};
 ghost use Rattle.station.specs.declared.Message.the-variants.{NetEntry, Ppli, Other};
 use crate::Message;
 use crate::Outcome;
+use crate::Own;
 use crate::Part;
+use crate::Standing;
 use crate::State;
 use crate::Unit;
 use pdu::Signal;
@@ -86,39 +88,40 @@ fn state_after(both: bool, state: State) -> State
     }
 }
 
-// The part after a J0.0 from its unit.
-fn after_j00(p: Part) -> Part
-    ensures { λ r. ⌜ ((s : Station) (i : ℕ) → p ≡ partOf s i → r ≡ partOf (afterJ00 s (p .unit)) i) ⌝ }
+// Where a station stands after a J0.0 from the sender.
+fn standing_after(own: Own, sender: Unit) -> Standing
+    ensures { λ r. ⌜ r ≡ standingAfter own sender ⌝ }
 {
-    let sender = p.unit;
-    let both = wire::both(p.level == COARSE_LEVEL, sender.level == COARSE_LEVEL);
-    let state = p.state;
+    let both = wire::both(
+        own.settings.level == COARSE_LEVEL,
+        sender.level == COARSE_LEVEL,
+    );
+    let was = own.standing;
+    let state = was.state;
     let next = state_after(both, state);
-    Part {
-        level: p.level,
-        net: p.net,
-        used: p.used,
-        id: id_after(p.id, sender.id),
+    Standing {
+        id: id_after(was.id, sender.id),
         state: next,
-        clock: p.clock,
-        place: p.place,
-        unit: sender,
     }
 }
 
 // A J0.0 from the part's unit: 34 or 42.
-fn net_entry(p: Part) -> Outcome
+fn net_entry(mut p: Part) -> Outcome
     ensures { λ r. ⌜ ((s : Station) (i : ℕ) → p ≡ partOf s i → putBack s r ≡ hearMessage s (slot i) NetEntry) ⌝ }
 {
     let sender = p.unit;
-    if sender.state != crate::FINE {
+    if sender.state != pdu::FINE {
         return Outcome {
             part: p,
             answer: 34,
         };
     }
+    let mut own = p.own;
+    let standing = standing_after(own, sender);
+    own.standing = standing;
+    p.own = own;
     Outcome {
-        part: after_j00(p),
+        part: p,
         answer: 42,
     }
 }
@@ -142,13 +145,13 @@ fn ppli(mut p: Part) -> Outcome
     ensures { λ r. ⌜ ((s : Station) (i : ℕ) → p ≡ partOf s i → putBack s r ≡ hearMessage s (slot i) Ppli) ⌝ }
 {
     let u = p.unit;
-    if u.state != crate::FINE {
+    if u.state != pdu::FINE {
         return Outcome {
             part: p,
             answer: 34,
         };
     }
-    let unit = heard_unit(p.clock, u);
+    let unit = heard_unit(p.own.clock, u);
     p.unit = unit;
     Outcome {
         part: p,
@@ -172,7 +175,8 @@ fn other(p: Part) -> Outcome
     ensures { λ r. ⌜ ((s : Station) (i : ℕ) → p ≡ partOf s i → putBack s r ≡ hearMessage s (slot i) Other) ⌝ }
 {
     let u = p.unit;
-    let state = p.state;
+    let standing = p.own.standing;
+    let state = standing.state;
     if wire::both(u.inside, is_fine(state)) {
         return Outcome {
             part: p,
@@ -206,14 +210,14 @@ pub(crate) fn signal(p: Part, g: Signal, word: Word) -> Outcome
             answer: 31,
         };
     }
-    if g.network.net != p.net {
+    if g.network.net != p.own.settings.net {
         return Outcome {
             part: p,
             answer: 32,
         };
     }
     let u = p.unit;
-    if other_id(p.id, u.id) {
+    if other_id(p.own.standing.id, u.id) {
         return Outcome {
             part: p,
             answer: 33,

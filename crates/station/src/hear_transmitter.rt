@@ -28,7 +28,7 @@ fn new_unit(now: u64, t: Transmitter) -> Unit
 fn renewed_unit(u: Unit, t: Transmitter) -> Unit
     ensures { λ r. ⌜ r ≡ renewed u t ⌝ }
 {
-    let same = wire::both(t.sync.state == crate::FINE, t.sync.id == u.id);
+    let same = wire::both(t.sync.state == pdu::FINE, t.sync.id == u.id);
     Unit {
         key: u.key,
         level: t.sync.level,
@@ -51,7 +51,7 @@ fn enter_unit(mut p: Part, t: Transmitter) -> Outcome
         };
     }
     let used = occupancy::with_place(p.used, i);
-    let unit = new_unit(p.clock, t);
+    let unit = new_unit(p.own.clock, t);
     p.used = used;
     p.place = i;
     p.unit = unit;

@@ -2,7 +2,7 @@
 // Every public call takes every station and every argument, and is promised as a whole answer and a whole station after it.
 ghost use mathlib.Core.Path.{_≡_};
 ghost use Rattle.pdu.specs.Reading.{reading};
-ghost use Rattle.station.specs.Units.{placeOf, keyOf, fresh, made, stateNumber, unitsHeld, seenOf, placeAt};
+ghost use Rattle.station.specs.Units.{levelOf, netOf, idOf, stateOf, clockOf, keyOf, fresh, made, stateNumber, placeOf, unitsHeld, seenOf, placeAt};
 ghost use Rattle.station.specs.Hearing.{heard};
 ghost use Rattle.station.specs.Parts.{senderKey, partOf, putBack};
 ghost use Rattle.station.specs.Clock.{clocked};
@@ -12,25 +12,33 @@ use pdu::Reading;
 
 mod hear_signal;
 mod hear_transmitter;
-mod parts;
 mod pass_time;
 mod places;
-
-const LAST_LEVEL: u8 = 4;
-
-const LAST_NET: u8 = 127;
-
-// The synchronization state of a sender that is fine.
-const FINE: u8 = 3;
-
-// Where a Signal's body starts.
-const BODY_START: usize = 52;
 
 // The station's own state in the net.
 pub enum State {
     Waiting,
     Coarse,
     Fine,
+}
+
+// What a station is made with; no call changes it.
+pub struct Settings {
+    level: u8,
+    net: u8,
+}
+
+// Where a station stands in the net.
+pub struct Standing {
+    id: u32,
+    state: State,
+}
+
+// A station's own fields: all but its places.
+pub struct Own {
+    clock: u64,
+    standing: Standing,
+    settings: Settings,
 }
 
 // An entry: what the station knows of a unit. The wide fields stand first, so that there is no gap between them to copy.
@@ -43,25 +51,17 @@ pub struct Unit {
     pub inside: bool,
 }
 
-// A station; `used` is the word of held places, and what a free place holds means nothing. No gap stands before `units`: they are copied as one block.
+// A station; `used` is the word of held places, and what a free place holds means nothing. The entries stand first: with no gap before them they are copied as one block.
 pub struct Station {
-    level: u8,
-    net: u8,
+    units: [Unit; occupancy::PLACES],
+    own: Own,
     used: u16,
-    id: u32,
-    state: State,
-    clock: u64,
-    units: [Unit; 16],
 }
 
 // What one datagram can touch of a station: its own fields, and the entry in the sender's place. An unknown sender's place is 16, and the entry that of place 0.
 struct Part {
-    level: u8,
-    net: u8,
+    own: Own,
     used: u16,
-    id: u32,
-    state: State,
-    clock: u64,
     place: usize,
     unit: Unit,
 }
@@ -107,21 +107,27 @@ pub enum Place {
 fn fresh_station(level: u8, net: u8) -> Station
     ensures { λ r. ⌜ r ≡ fresh level net ⌝ }
 {
-    let blank = Unit {
-        key: 0,
-        level: 0,
-        state: 0,
-        id: 0,
-        inside: false,
-        last: 0,
-    };
-    let units = [blank; 16];
-    Station {
-        level,
-        net,
+    let settings = Settings { level, net };
+    let standing = Standing {
         id: 0,
         state: State::Waiting,
+    };
+    let own = Own {
         clock: 0,
+        standing,
+        settings,
+    };
+    let blank = Unit {
+        key: 0,
+        last: 0,
+        id: 0,
+        level: 0,
+        state: 0,
+        inside: false,
+    };
+    let units = [blank; occupancy::PLACES];
+    Station {
+        own,
         used: 0,
         units,
     }
@@ -131,7 +137,7 @@ fn fresh_station(level: u8, net: u8) -> Station
 pub fn new(level: u8, net: u8) -> Made
     ensures { λ r. ⌜ r ≡ made level net ⌝ }
 {
-    if wire::either(LAST_LEVEL < level, LAST_NET < net) {
+    if wire::either(pdu::LAST_LEVEL < level, pdu::LAST_NET < net) {
         return Made {
             station: fresh_station(0, 0),
             answer: 37,
@@ -152,8 +158,8 @@ fn outcome_of(part: Part, read: Reading, datagram: &[u8]) -> Outcome
         Reading::Refused(n) => Outcome { part, answer: n },
         Reading::Transmitter(t) => hear_transmitter::transmitter(part, t),
         Reading::Signal(g, size) => {
-            let end = BODY_START + size as usize;
-            let word = pdu::words::at(&datagram[BODY_START..end], 0);
+            let end = pdu::BODY_START + size as usize;
+            let word = pdu::words::at(&datagram[pdu::BODY_START..end], 0);
             hear_signal::signal(part, g, word)
         }
     }
@@ -164,7 +170,7 @@ pub fn hear(station: Station, datagram: &[u8]) -> Heard
     ensures { λ r. ⌜ r ≡ heard station (now (datagram .entry)) ⌝ }
 {
     let read = pdu::read(datagram);
-    let key = parts::sender_key(read);
+    let key = places::sender_key(read);
     let mut units = station.units;
     let mut i = 0;
     while i < occupancy::PLACES {
@@ -176,13 +182,26 @@ pub fn hear(station: Station, datagram: &[u8]) -> Heard
     }
     let from = i % occupancy::PLACES;
     let sender = units[from];
-    let out = outcome_of(parts::part_of(station, i, sender), read, datagram);
-    let part = out.part;
-    let to = part.place % occupancy::PLACES;
-    let unit = part.unit;
+    let own = station.own;
+    let part = Part {
+        own,
+        used: station.used,
+        place: i,
+        unit: sender,
+    };
+    let out = outcome_of(part, read, datagram);
+    let after = out.part;
+    let to = after.place % occupancy::PLACES;
+    let unit = after.unit;
     units[to] = unit;
+    let own = after.own;
+    let station = Station {
+        units,
+        own,
+        used: after.used,
+    };
     Heard {
-        station: parts::station_of(part, units),
+        station,
         answer: out.answer,
     }
 }
@@ -191,7 +210,7 @@ pub fn hear(station: Station, datagram: &[u8]) -> Heard
 pub fn clock(station: Station, t: u64) -> Heard
     ensures { λ r. ⌜ r ≡ clocked station t ⌝ }
 {
-    if t < station.clock {
+    if t < station.own.clock {
         return Heard {
             station,
             answer: 36,
@@ -212,27 +231,28 @@ pub fn key_of(h: Header) -> u64
 }
 
 pub fn level_of(station: Station) -> u8
-    ensures { λ r. ⌜ r ≡ station .level ⌝ }
+    ensures { λ r. ⌜ r ≡ levelOf station ⌝ }
 {
-    station.level
+    station.own.settings.level
 }
 
 pub fn net_of(station: Station) -> u8
-    ensures { λ r. ⌜ r ≡ station .net ⌝ }
+    ensures { λ r. ⌜ r ≡ netOf station ⌝ }
 {
-    station.net
+    station.own.settings.net
 }
 
 pub fn id_of(station: Station) -> u32
-    ensures { λ r. ⌜ r ≡ station .id ⌝ }
+    ensures { λ r. ⌜ r ≡ idOf station ⌝ }
 {
-    station.id
+    station.own.standing.id
 }
 
 pub fn state_of(station: Station) -> State
-    ensures { λ r. ⌜ r ≡ station .state ⌝ }
+    ensures { λ r. ⌜ r ≡ stateOf station ⌝ }
 {
-    station.state
+    let standing = station.own.standing;
+    standing.state
 }
 
 // A number for each state: 0 Waiting, 2 Coarse, 3 Fine.
@@ -247,9 +267,9 @@ pub fn state_number(state: State) -> u8
 }
 
 pub fn clock_of(station: Station) -> u64
-    ensures { λ r. ⌜ r ≡ station .clock ⌝ }
+    ensures { λ r. ⌜ r ≡ clockOf station ⌝ }
 {
-    station.clock
+    station.own.clock
 }
 
 // How many units the station holds.

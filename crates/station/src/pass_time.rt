@@ -1,7 +1,7 @@
 // Passing time: which units stay.
 ghost use mathlib.Core.Path.{_≡_};
 ghost use Prim.Native.Nat.{_-_};
-ghost use Rattle.occupancy.specs.Places.{wordOf};
+ghost use Rattle.occupancy.specs.Places.{places, wordOf};
 ghost use Rattle.station.specs.Clock.{silent, stays, atTime};
 use crate::Station;
 
@@ -23,7 +23,7 @@ fn is_silent(t: u64, last: u64) -> bool
 
 // The word of the places that stay held at t.
 fn survivors(s: Station, t: u64) -> u16
-    ensures { λ r. ⌜ r ≡ wordOf (stays s t) 16 ⌝ }
+    ensures { λ r. ⌜ r ≡ wordOf (stays s t) places ⌝ }
 {
     let mut word: u16 = 0;
     let mut i = 0;
@@ -46,6 +46,6 @@ pub(crate) fn at_time(mut s: Station, t: u64) -> Station
 {
     let used = survivors(s, t);
     s.used = used;
-    s.clock = t;
+    s.own.clock = t;
     s
 }

@@ -1,5 +1,5 @@
--- The call on a datagram answers and leaves what the rules say. The loop passes only places that are not held with the sender's key and stops at the first that is, or at 16: that is the key's place. The outcome of its part, put back, is the rules'.
--- The measure is the places left.
+-- The call on a datagram answers and leaves what the rules say. The loop passes only places that are not held with the sender's key and stops
+-- at the first that is, or at 16: that is the key's place. The outcome of its part, put back, is the rules'. The measure is the places left.
 -- Assumes nothing.
 use mathlib.Core.Path.{_≡_, refl, sym, ap, _∙_}
 use mathlib.Core.Logic.{⊎-elim}
@@ -8,18 +8,63 @@ use Prim.Native.Nat.{ℕ, _-_, _≤_, _<_}
 use lib.Dec.{eqb}
 use native.Mathlib.Omega.{arith}
 use borrow.Author.Count.{below-none, below-more}
+use Rattle.occupancy.specs.Places.{places}
 use Rattle.occupancy.proofs.LeastLaws.{least-is}
 use Rattle.station.specs.Units.{unitAt, holds, placeOf}
-use Rattle.station.specs.Hearing.{answering}
 use Rattle.station.specs.Parts.{partOf}
+use Rattle.station.specs.declared.Station.{Station}
 use Rattle.station.proofs.hear.Statement.{statement}
 use Rattle.station.proofs.hear.Tie as tie
 
 abbrev Inv-loop : tie.InvT-loop
-Inv-loop station datagram read key units i₀ i = (i ≤ 16) × ((k : ℕ) → k < i → holds station key k ≡ false)
+Inv-loop station datagram read key units i₀ i = (i ≤ places) × ((k : ℕ) → k < i → holds station key k ≡ false)
 
 abbrev μ-loop : tie.MeasureT-loop
-μ-loop station datagram read key units i₀ i = 16 - i
+μ-loop station datagram read key units i₀ i = places - i
+
+-- where the loop is tested: the station that the call was given, the sender's key, and the place
+abbrev keyed : tie.At-loop Inv-loop μ-loop → tie.After-sender-key Inv-loop μ-loop
+keyed c = c .before .before
+
+abbrev S : tie.At-loop Inv-loop μ-loop → Station
+S c = keyed c .before .before .before .args .station
+
+abbrev key : tie.At-loop Inv-loop μ-loop → ℕ
+key c = keyed c .sender-key .result
+
+abbrev place : tie.At-loop Inv-loop μ-loop → ℕ
+place c = c .loop .i
+
+-- from the two tests of a place back to the one of the loop
+abbrev turn : tie.After-is-held Inv-loop μ-loop → tie.At-loop Inv-loop μ-loop
+turn c = c .before .before .before
+
+abbrev tested : tie.After-both Inv-loop μ-loop → tie.At-loop Inv-loop μ-loop
+tested c = turn (c .before .before)
+
+-- from the end back to the outcome, and to where the loop was left
+abbrev decided : tie.After-own2 Inv-loop μ-loop → tie.After-outcome-of Inv-loop μ-loop
+decided c = c .before .before .before .before
+
+abbrev stopped : tie.After-outcome-of Inv-loop μ-loop → tie.Left-loop Inv-loop μ-loop
+stopped c = c .before .before .before
+
+-- what the code asks of a place: whether it is held with the sender's key
+asked : (c : tie.After-both Inv-loop μ-loop) → c .both .result ≡ holds (S (tested c)) (key (tested c)) (place (tested c))
+asked c =
+    let k = tested c in
+    c .both .ensures ∙ ap (λ (b : Bool). b && eqb (unitAt (S k) (place k) .key) (key k)) (c .before .before .is-held .ensures)
+
+-- the loop stops at the place of the sender's key
+found : (c : tie.Left-loop Inv-loop μ-loop) → placeOf (S (c .before)) (key (c .before)) ≡ place (c .before)
+unfolding placeOf
+found c =
+    let k = c .before in
+    least-is (holds (S k) (key k)) places (place k) (k .loop .inv .0) (k .loop .inv .1)
+    (λ l. ⊎-elim {C = holds (S k) (key k) (place k) ≡ true}
+    (λ w. absurd (omega (arith, w .left, l)))
+    (λ w. sym (w .4 .ensures ∙ ap (λ (b : Bool). b && eqb (unitAt (S k) (place k) .key) (key k)) (w .2 .ensures)) ∙ w .5 .taken)
+    (c .loop-test .came))
 
 read-requires : tie.Need-read-requires Inv-loop μ-loop
 read-requires c κs = tt
@@ -49,25 +94,7 @@ loop-less : tie.Need-loop-less Inv-loop μ-loop
 loop-less c = omega arith
 
 loop-again : tie.Need-loop-again Inv-loop μ-loop
-loop-again c =
-    let s = c .before .before .before .before .before .before .before .before .before .before .before .args .station in
-    let key = c .before .before .before .before .before .before .before .before .sender-key .result in
-    let i = c .before .before .before .before .before .before .loop .i in
-    let test = c .before .both .ensures ∙ ap (λ (b : Bool). b && eqb (unitAt s i .key) key) (c .before .before .before .is-held .ensures) in
-    (omega arith, below-more _ _ (c .before .before .before .before .before .before .loop .inv .1) (sym test ∙ c .if1 .left))
-
--- the loop stops at the place of the sender's key
-found : (c : tie.Left-loop Inv-loop μ-loop) → placeOf (c .before .before .before .before .before .before .args .station) (c .before .before .before .sender-key .result) ≡ c .before .loop .i
-unfolding placeOf
-found c =
-    let s = c .before .before .before .before .before .before .args .station in
-    let key = c .before .before .before .sender-key .result in
-    let i = c .before .loop .i in
-    least-is (holds s key) 16 i (c .before .loop .inv .0) (c .before .loop .inv .1)
-    (λ l. ⊎-elim {C = holds s key i ≡ true}
-    (λ w. absurd (omega (arith, w .left, l)))
-    (λ w. sym (w .4 .ensures ∙ ap (λ (b : Bool). b && eqb (unitAt s i .key) key) (w .2 .ensures)) ∙ w .5 .taken)
-    (c .loop-test .came))
+loop-again c = (omega arith, below-more _ _ (tested (c .before) .loop .inv .1) (sym (asked (c .before)) ∙ c .if1 .left))
 
 mul-sender : tie.Need-mul-sender Inv-loop μ-loop
 mul-sender c = omega arith
@@ -75,11 +102,8 @@ mul-sender c = omega arith
 array-copy-out-sender : tie.Need-array-copy-out-sender Inv-loop μ-loop
 array-copy-out-sender c = omega arith
 
-part-of-requires : tie.Need-part-of-requires Inv-loop μ-loop
-part-of-requires c κs = refl
-
 outcome-of-requires : tie.Need-outcome-of-requires Inv-loop μ-loop
-outcome-of-requires c κs = c .before .before .before .before .before .before .read .ensures
+outcome-of-requires c κs = keyed (c .before .before .before) .before .read .ensures
 
 mul-units : tie.Need-mul-units Inv-loop μ-loop
 mul-units c = omega arith
@@ -87,15 +111,13 @@ mul-units c = omega arith
 array-set-from-units : tie.Need-array-set-from-units Inv-loop μ-loop
 array-set-from-units c = omega arith
 
-station-of-requires : tie.Need-station-of-requires Inv-loop μ-loop
-station-of-requires c κs = tt
-
 returns : tie.Need-returns Inv-loop μ-loop
 returns c =
-    let s = c .before .before .before .before .before .before .before .before .before .before .before .before .before .args .station in
-    let place = sym (found (c .before .before .before .before .before .before .before)) ∙ ap (placeOf s) (c .before .before .before .before .before .before .before .before .before .before .sender-key .ensures) in
-    let made = c .before .before .before .before .outcome-of in
-    ap (answering (made .result .answer)) (c .station-of .ensures) ∙ made .ensures s (c .before .before .before .before .before .part-of .ensures ∙ ap (partOf s) place)
+    let out = decided c in
+    let end = stopped out in
+    let s = S (end .before) in
+    let its-place = sym (found end) ∙ ap (placeOf s) (keyed (end .before) .sender-key .ensures) in
+    out .outcome-of .ensures s (ap (partOf s) its-place)
 
 pub hear-spec : {M : Type 1} → statement M
 hear-spec =
@@ -115,9 +137,7 @@ hear-spec =
     loop-again
     mul-sender
     array-copy-out-sender
-    part-of-requires
     outcome-of-requires
     mul-units
     array-set-from-units
-    station-of-requires
     returns)

@@ -1,7 +1,7 @@
 -- The part's outcome is what the rules say of every reading. Each arm is one answer of reading. A Signal's body lies within the datagram, and its first word is the one that the rule asks for.
 -- Assumes nothing.
 use mathlib.Core.List.{List}
-use Rattle.pdu.proofs.Carried.{body-there}
+use Rattle.station.proofs.ReaderLaws.{body-there}
 use mathlib.Core.Path.{_≡_, sym, ap, _∙_}
 use native.Mathlib.Omega.{arith}
 use Prim.Native.Nat.{ℕ, _+_, _-_}

@@ -1,7 +1,7 @@
 -- A PPLI is answered 34 or 43, with the part that goes with it. The test on the sender's state decides between 34 and the change of a PPLI.
 -- Assumes nothing.
 use mathlib.Core.Path.{sym, ap}
-use Rattle.pdu.proofs.ReadingLaws.{differs, agrees}
+use Rattle.station.proofs.ReaderLaws.{differs, agrees}
 use Rattle.station.proofs.PartLaws.{kept}
 use Rattle.station.specs.Hearing.{hearMessage, afterPpli}
 use Rattle.station.specs.declared.Part.{Part}

@@ -4,10 +4,10 @@ use mathlib.Core.Path.{_≡_, sym, ap, subst, _∙_}
 use mathlib.Core.Bool.{not}
 use Prim.Native.Nat.{ℕ, _≤_, _<_}
 use lib.Dec.{eqb}
-use Rattle.pdu.proofs.ReadingLaws.{differs, agrees}
+use Rattle.station.proofs.ReaderLaws.{differs, agrees}
 use borrow.Author.Tests.{lt-ltb, le-ltb}
 use Rattle.station.proofs.PartLaws.{kept, own-slot}
-use Rattle.station.specs.Units.{keyOf, unitAt, placeOf}
+use Rattle.station.specs.Units.{netOf, idOf, keyOf, unitAt, placeOf}
 use Rattle.station.specs.Hearing.{otherId, signalRules, hearMessage, hearSignal}
 use Rattle.station.specs.Parts.{partOf}
 use Rattle.station.specs.declared.Station.{Station}
@@ -17,12 +17,12 @@ use Rattle.station.proofs.hear_signal.signal.Statement.{statement}
 use Rattle.station.proofs.hear_signal.signal.Tie as tie
 
 -- the rules on the net and on the IDs ask of the station what the code asks of the part with the sender's place
-same-net : (s : Station) (k : ℕ) (p : Part) (net : ℕ) → p ≡ partOf s k → not (eqb net (s .net)) ≡ not (eqb net (p .net))
-same-net s k p net e = sym (ap (λ (q : Part). not (eqb net (q .net))) e)
+same-net : (s : Station) (k : ℕ) (p : Part) (net : ℕ) → p ≡ partOf s k → not (eqb net (netOf s)) ≡ not (eqb net (p .own .settings .net))
+same-net s k p net e = sym (ap (λ (q : Part). not (eqb net (q .own .settings .net))) e)
 
-same-ids : (s : Station) (k : ℕ) (p : Part) → k < 16 → p ≡ partOf s k → otherId (s .id) (unitAt s k .id) ≡ otherId (p .id) (p .unit .id)
+same-ids : (s : Station) (k : ℕ) (p : Part) → k < 16 → p ≡ partOf s k → otherId (idOf s) (unitAt s k .id) ≡ otherId (p .own .standing .id) (p .unit .id)
 same-ids s k p low e =
-    ap (λ (i : ℕ). otherId (s .id) (unitAt s i .id)) (sym (own-slot k low)) ∙ sym (ap (λ (q : Part). otherId (q .id) (q .unit .id)) e)
+    ap (λ (i : ℕ). otherId (idOf s) (unitAt s i .id)) (sym (own-slot k low)) ∙ sym (ap (λ (q : Part). otherId (q .own .standing .id) (q .unit .id)) e)
 
 returns : tie.Need-returns
 unfolding hearSignal signalRules
@@ -39,7 +39,7 @@ returns-2 c = λ s e.
     let net = given .g .network .net in
     let k = placeOf s (keyOf (given .g .header)) in
     let low : k < 16 = subst (λ (q : Part). q .place < 16) e (c .before .before .before .if1 .left) in
-    rw (lt-ltb k 16 low, same-net s k (given .p) net e ∙ differs net (given .p .net) (c .if2 .taken)) (kept s k 32 (given .p) e)
+    rw (lt-ltb k 16 low, same-net s k (given .p) net e ∙ differs net (given .p .own .settings .net) (c .if2 .taken)) (kept s k 32 (given .p) e)
 
 other-id-requires : tie.Need-other-id-requires
 other-id-requires c κs = search needs
@@ -51,7 +51,7 @@ returns-3 c = λ s e.
     let net = given .g .network .net in
     let k = placeOf s (keyOf (given .g .header)) in
     let low : k < 16 = subst (λ (q : Part). q .place < 16) e (c .before .before .before .before .before .before .if1 .left) in
-    let same = same-net s k (given .p) net e ∙ agrees net (given .p .net) (c .before .before .before .if2 .left) in
+    let same = same-net s k (given .p) net e ∙ agrees net (given .p .own .settings .net) (c .before .before .before .if2 .left) in
     rw (lt-ltb k 16 low, same, same-ids s k (given .p) low e ∙ sym (c .before .other-id .ensures) ∙ c .if3 .taken) (kept s k 33 (given .p) e)
 
 message-requires : tie.Need-message-requires
@@ -67,7 +67,7 @@ returns-4 c = λ s e.
     let net = given .g .network .net in
     let k = placeOf s (keyOf (given .g .header)) in
     let low : k < 16 = subst (λ (q : Part). q .place < 16) e (c .before .before .before .before .before .before .before .before .if1 .left) in
-    let same = same-net s k (given .p) net e ∙ agrees net (given .p .net) (c .before .before .before .before .before .if2 .left) in
+    let same = same-net s k (given .p) net e ∙ agrees net (given .p .own .settings .net) (c .before .before .before .before .before .if2 .left) in
     let own = same-ids s k (given .p) low e ∙ sym (c .before .before .before .other-id .ensures) ∙ c .before .before .if3 .left in
     let said = c .before .message in
     rw (lt-ltb k 16 low, same, own) (c .taken .ensures s k e ∙ ap (λ (i : ℕ). hearMessage s i (said .result)) (own-slot k low) ∙ ap (hearMessage s k) (said .ensures))

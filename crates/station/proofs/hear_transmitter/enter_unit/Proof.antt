@@ -42,7 +42,7 @@ returns-2 c = λ s i e.
     let same = free .ensures ∙ ap (λ (q : Part). freePlace (q .used)) e in
     let j = free .result in
     let low : j < 16 = c .before .before .if1 .left in
-    let u = newUnit (s .clock) (c .before .before .before .before .args .t) in
+    let u = newUnit (s .own .clock) (c .before .before .before .before .args .t) in
     rw (← same, lt-ltb j 16 low, c .before .with-place .ensures, c .new-unit .ensures, e) (ap (λ (k : ℕ). answering 40 (stationOf (partOf (withNew s j u) j) (set (s .units) k u))) (own-slot j low))
 
 pub enter-unit-spec : {M : Type 1} → statement M

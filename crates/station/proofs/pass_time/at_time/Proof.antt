@@ -10,7 +10,7 @@ survivors-requires c κs = search needs
 
 returns : tie.Need-returns
 unfolding atTime
-returns c = rw (c .survivors .ensures)
+returns c = rw (c .before .survivors .ensures)
 
 pub at-time-spec : {M : Type 1} → statement M
 at-time-spec = tie.close (tie.spec survivors-requires returns)

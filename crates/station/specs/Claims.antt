@@ -1,0 +1,125 @@
+-- What the station's theorems claim. Each is proved under its own name in small letters: OnlyByRules by only-by-rules, and so on.
+use Prim.Native.Nat.{ℕ, _-_, _^_, _<_, _≤_}
+use mathlib.Core.Path.{_≡_}
+use mathlib.Core.Bool.{true}
+use mathlib.Core.List.{List, _∷_}
+use mathlib.Core.Logic.{_⊎_, _↔_}
+use Rattle.occupancy.specs.Places.{held}
+use Rattle.pdu.specs.Reading.{reading}
+use Rattle.pdu.specs.declared.Transmitter.{Transmitter}
+use Rattle.pdu.specs.declared.Signal.{Signal}
+use Rattle.pdu.specs.declared.Reading.the-variants.{Refused, Transmitter as aTransmitter}
+use Rattle.station.specs.Units.{levelOf, netOf, idOf, stateOf, clockOf, keyOf, unitAt}
+use Rattle.station.specs.Plain.{Sized, HeldAt, Sender, Stranger, Clash}
+use Rattle.station.specs.Hearing.{answering, heard}
+use Rattle.station.specs.Runs.{Call, datagram, called, after}
+use Rattle.station.specs.Table.{IsSignal, Passed, SaysJ00, Table}
+use Rattle.station.specs.declared.State.the-variants.{Waiting, Fine}
+use Rattle.station.specs.declared.Station.{Station}
+
+-- ---- one call
+
+-- Whatever the call, what it answers and leaves is a row of the table.
+abbrev pub OnlyByRules : Station → Call → Type 0
+OnlyByRules s c = Table s c (called s c .answer) (called s c .station)
+
+-- A datagram that the reader refuses is answered with the reader's number, and leaves the whole station as it was.
+abbrev pub UnreadChangesNothing : Station → List ℕ → Type 0
+UnreadChangesNothing s d = (n : ℕ) → reading d ≡ Refused n → heard s d ≡ answering n s
+
+-- Every answer below 40 (30 to 36 among them), and 44, leaves the whole station as it was.
+abbrev pub RefusalsChangeNothing : Station → Call → Type 0
+RefusalsChangeNothing s c = (called s c .answer < 40) ⊎ (called s c .answer ≡ 44) → called s c .station ≡ s
+
+-- Why a Signal's sender is an outsider: its key is unknown, it is on another net, its ID differs from the station's and neither is zero, or it
+-- is not fine.
+pub data Outsider (s : Station) (g : Signal) : Type 0 where
+  unknown : Stranger s (keyOf (g .header)) → Outsider s g
+  elsewhere : (g .network .net ≡ netOf s → ⊥) → Outsider s g
+  another : (i : ℕ) → Sender s (keyOf (g .header)) i → Clash (idOf s) (unitAt s i .id) → Outsider s g
+  coarse : (i : ℕ) → Sender s (keyOf (g .header)) i → (unitAt s i .state ≡ 3 → ⊥) → Outsider s g
+
+-- A Signal from an outsider changes nothing at all: not the state, not the ID, no entry.
+abbrev pub OutsidersChangeNothing : Station → List ℕ → Type 0
+OutsidersChangeNothing s d = (g : Signal) → IsSignal d g → Outsider s g → called s (datagram d) .station ≡ s
+
+-- The station's own fields are as they were, and whoever is In was In before.
+pub record AdmitsNoOne (s s′ : Station) : Type 0 where
+  pub own : s′ .own ≡ s .own
+  pub inside : (j : ℕ)
+      → held (s′ .used) j ≡ true
+      → unitAt s′ j .inside ≡ true
+      → (held (s .used) j ≡ true) × (unitAt s j .inside ≡ true)
+
+-- A Transmitter never changes the station's own level, net, ID, state or clock, and never lets a unit in.
+abbrev pub TransmittersAdmitNoOne : Station → List ℕ → Type 0
+TransmittersAdmitNoOne s d = (t : Transmitter) → reading d ≡ aTransmitter t → AdmitsNoOne s (called s (datagram d) .station)
+
+-- The clock never goes back.
+abbrev pub ClockNeverBack : Station → Call → Type 0
+ClockNeverBack s c = clockOf s ≤ clockOf (called s c .station)
+
+-- The call is a J0.0 that the station takes: a Signal whose sender stands in a held place (it was heard before by a Transmitter), on the
+-- station's net, its ID the station's or one of the two zero, its first word J0.0, and its sender fine.
+pub record Joins (s : Station) (c : Call) : Type 0 where
+  pub bytes : List ℕ
+  pub signal : Signal
+  pub place : ℕ
+  pub call : c ≡ datagram bytes
+  pub read : IsSignal bytes signal
+  pub passed : Passed s signal place
+  pub says : SaysJ00 bytes signal
+  pub fine : unitAt s place .state ≡ 3
+
+-- The station answers 42 exactly to such a J0.0.
+abbrev pub Answered42 : Station → Call → Type 0
+Answered42 s c = (called s c .answer ≡ 42) ↔ Joins s c
+
+-- ---- a list of calls
+
+-- Some call of the list, on the station as the calls before it left it, is such a call.
+pub data Some (P : Station → Call → Type 0) : Station → List Call → Type 0 where
+  here : {s : Station} {c : Call} {cs : List Call} → P s c → Some P s (c ∷ cs)
+  later : {s : Station} {c : Call} {cs : List Call} → Some P (called s c .station) cs → Some P s (c ∷ cs)
+
+-- A J0.0 that the station takes, where the station's level or the sender's is not 4.
+pub record JoinsFine (s : Station) (c : Call) : Type 0 where
+  pub joins : Joins s c
+  pub levels : levelOf s ≡ 4 → unitAt s (joins .place) .level ≡ 4 → ⊥
+
+-- The station answers the call with this number.
+abbrev pub Answered : ℕ → Station → Call → Type 0
+Answered n s c = called s c .answer ≡ n
+
+-- The station is Coarse or Fine exactly if some call was a J0.0 that it took, which is exactly if some call was answered 42; and it is Fine
+-- exactly if some such J0.0 met not both levels at 4. Proved by in-net-exactly-when of every station that the maker gives.
+pub record InNet (s : Station) (calls : List Call) : Type 0 where
+  pub in-net : (stateOf (after s calls) ≡ Waiting → ⊥) ↔ Some Joins s calls
+  pub answered : (stateOf (after s calls) ≡ Waiting → ⊥) ↔ Some (Answered 42) s calls
+  pub fine : (stateOf (after s calls) ≡ Fine) ↔ Some JoinsFine s calls
+
+-- The call is a Transmitter with this key.
+pub record Announces (key : ℕ) (s : Station) (c : Call) : Type 0 where
+  pub bytes : List ℕ
+  pub transmitter : Transmitter
+  pub call : c ≡ datagram bytes
+  pub read : reading bytes ≡ aTransmitter transmitter
+  pub keyed : keyOf (transmitter .header) ≡ key
+
+-- Whoever the station holds, it has heard a Transmitter from: each held place's key was announced by some call of the list.
+abbrev pub HeardFirst : Station → List Call → Type 0
+HeardFirst s calls = (i : ℕ) → HeldAt (after s calls) i → Some (Announces (unitAt (after s calls) i .key)) s calls
+
+-- What is true of every station that calls can reach. Proved by always-sound.
+pub record Sound (s : Station) : Type 0 where
+  -- There are sixteen places, and no place beyond them is held.
+  pub sized : Sized s
+  pub word : s .used < 2 ^ 16
+  -- No two held places have the same key.
+  pub distinct : (i j : ℕ) → HeldAt s i → HeldAt s j → unitAt s i .key ≡ unitAt s j .key → i ≡ j
+  -- No unit was last heard after the present second.
+  pub heard : (i : ℕ) → HeldAt s i → unitAt s i .last ≤ clockOf s
+  -- No unit that is held has been silent for 60 seconds or more.
+  pub present : (i : ℕ) → HeldAt s i → clockOf s - unitAt s i .last < 60
+  -- A unit that is In is fine.
+  pub inside : (i : ℕ) → HeldAt s i → unitAt s i .inside ≡ true → unitAt s i .state ≡ 3

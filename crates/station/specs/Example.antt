@@ -1,0 +1,52 @@
+-- Two runs of one station, which show that what the theorems speak of happens. A unit is heard, its J0.0 and its PPLI are taken and its
+-- traffic is passed; it is held at 59 seconds and gone at 60. At level 4 on both sides the same J0.0 leaves the station Coarse, and traffic is not passed.
+use Prim.Native.Nat.{ℕ, _*_}
+use mathlib.Core.Path.{_≡_}
+use mathlib.Core.List.{List, [], _∷_, _++_}
+use lib.ListN.{replicate}
+use Rattle.pdu.specs.Writing.{transmitterBytes, signalBytes}
+use Rattle.pdu.specs.declared.Header.{Header}
+use Rattle.station.specs.Units.{idOf, stateOf, made}
+use Rattle.station.specs.Runs.{Call, datagram, time, after, answers}
+use Rattle.station.specs.declared.State.the-variants.{Coarse, Fine}
+
+abbrev pub header : Header
+header = record { version = 6; exercise = 1; timestamp = 0; site = 1; application = 2; entity = 3; radio = 4 }
+
+-- a Transmitter that is fine, of this level, with ID 9
+abbrev pub unit : ℕ → Call
+unit level =
+    datagram
+    (transmitterBytes (record {
+      header = header;
+      entity = record { kind = 0; domain = 0; country = 0; version = 0; nomenclature = 0 };
+      antenna = record { x = 0; y = 0; z = 0; dx = 0; dy = 0; dz = 0; pattern = 0 };
+      emission = record { state = 0; frequency = 0; bandwidth = 0; power = 0; spread = 0; crypto = 0; key = 0 };
+      sync = record { level = level; primary = 1; secondary = 0; state = 3; id = 9 };
+    }))
+
+-- a type 0 Signal of that unit on net 5 with one initial word of this label
+abbrev pub say : ℕ → Call
+say label =
+    datagram
+    (signalBytes (record {
+      header = header;
+      encoding = 0;
+      rate = 0;
+      samples = 0;
+      network = record { npg = 0; net = 5; tsec = 255; msec = 255; «message_type» = 0; slot = 0; epoch = 0; time = 0 };
+    }) (replicate 15 0 ++ (label * 4 ∷ [])))
+
+abbrev pub first-run : List Call
+first-run = say 0 ∷ unit 3 ∷ say 3 ∷ say 0 ∷ say 2 ∷ say 3 ∷ time 59 ∷ say 3 ∷ time 60 ∷ say 3 ∷ time 59 ∷ []
+
+abbrev pub second-run : List Call
+second-run = unit 4 ∷ say 0 ∷ say 2 ∷ say 3 ∷ unit 4 ∷ []
+
+-- the answers of each run, and the state that it ends in
+pub record ExampleRuns : Type 0 where
+  pub first-answers : answers (made 4 5 .station) first-run ≡ 31 ∷ 40 ∷ 35 ∷ 42 ∷ 43 ∷ 44 ∷ 46 ∷ 44 ∷ 46 ∷ 31 ∷ 36 ∷ []
+  pub first-state : stateOf (after (made 4 5 .station) first-run) ≡ Fine
+  pub first-id : idOf (after (made 4 5 .station) first-run) ≡ 9
+  pub second-answers : answers (made 4 5 .station) second-run ≡ 40 ∷ 42 ∷ 43 ∷ 35 ∷ 41 ∷ []
+  pub second-state : stateOf (after (made 4 5 .station) second-run) ≡ Coarse
