@@ -15,13 +15,19 @@ pub count-same : (p q : ℕ → Bool) (n : ℕ) → ((i : ℕ) → p i ≡ q i) 
 count-same p q n e = ap (λ (r : ℕ → Bool). count r n) (fun-ext e)
 
 -- a place that passes, with none that passes below it, is the least
-pub least-is : (p : ℕ → Bool) (n k : ℕ) → k ≤ n → ((i : ℕ) → i < k → p i ≡ false) → (k < n → p k ≡ true) → least p n ≡ k
+pub least-is : (p : ℕ → Bool) (n k : ℕ)
+    → k ≤ n
+    → ((i : ℕ) → i < k → p i ≡ false)
+    → (k < n → p k ≡ true)
+    → least p n ≡ k
 unfolding least
 least-is p zero zero h below here = refl
 least-is p zero (suc k) h below here = absurd (not-suc-le-zero h)
 least-is p (suc n) zero h below here = rw (here (zero-lt-suc n))
 least-is p (suc n) (suc k) h below here =
-    rw (below zero (zero-lt-suc k)) (ap suc (least-is (λ i. p (suc i)) n k (le-of-suc-le-suc h) (λ i l. below (suc i) (suc-le-suc l)) (λ l. here (suc-le-suc l))))
+    let rest : least (λ i. p (suc i)) n ≡ k =
+    least-is (λ i. p (suc i)) n k (le-of-suc-le-suc h) (λ i l. below (suc i) (suc-le-suc l)) (λ l. here (suc-le-suc l)) in
+    rw (below zero (zero-lt-suc k)) (ap suc rest)
 
 -- the least place is at most the bound
 pub least-le : (p : ℕ → Bool) (n : ℕ) → least p n ≤ n

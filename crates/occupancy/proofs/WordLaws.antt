@@ -10,9 +10,9 @@ use native.Mathlib.Nat.{div-one, div-div-eq-div-mul, div-eq-of-lt, pow-suc, pow-
 use native.Mathlib.Omega.{arith}
 use lib.Dec.{eqb, eqb·zero-suc, eqb·suc-zero, eqb·suc-suc}
 use lib.Count.{trailingZeros, ones, ones-step}
-use borrow.Author.Tests.{eq-eqb, ne-eqb}
-use Rattle.occupancy.specs.Places.{held, least, count, withPlace, wordOf}
-use Rattle.occupancy.proofs.LeastLaws.{least-same, count-same}
+use borrow.Author.Tests.{eq-eqb, ne-eqb, not-true, not-false}
+use Rattle.occupancy.specs.Places.{places, held, least, count, freePlace, withPlace, wordOf}
+use Rattle.occupancy.proofs.LeastLaws.{least-same, count-same, least-below, least-here}
 
 -- ---- one bit and the rest
 
@@ -64,6 +64,16 @@ ones-held (suc k) w h =
     ∙ ap₂ _+_
     (⊎-elim (λ (e : w % 2 ≡ 0). rw (held-zero w, e)) (λ (e : w % 2 ≡ 1). rw (held-zero w, e)) (even-or-odd w))
     (ones-held k (w / 2) (omega arith) ∙ count-same (held (w / 2)) (λ i. held w (suc i)) k (λ i. sym (held-suc w i)))
+
+-- ---- the lowest free place
+
+-- one of the sixteen, it is free
+pub lowest-is-free : (w : ℕ) → freePlace w < places → held w (freePlace w) ≡ false
+lowest-is-free w low = not-true (held w (freePlace w)) (least-here (λ i. not (held w i)) places low)
+
+-- every place below it is held
+pub below-is-held : (w i : ℕ) → i < freePlace w → held w i ≡ true
+below-is-held w i l = not-false (held w i) (least-below (λ j. not (held w j)) places i l)
 
 -- ---- a free place taken
 
@@ -125,12 +135,19 @@ built-free p n = held-past (wordOf p n) n (built-fits p n)
 pub held-built : (p : ℕ → Bool) (n j : ℕ) → j < n → held (wordOf p n) j ≡ p j
 unfolding wordOf
 held-built p zero j h = absurd (not-suc-le-zero h)
-held-built p (suc n) j h = ⊎-elim (λ (e : j ≡ n). last (p n) refl e) (λ (l : j < n). earlier (p n) l (held-built p n j l)) (eq-or-lt-of-le (le-of-suc-le-suc h))
+held-built p (suc n) j h =
+    ⊎-elim
+    (λ (e : j ≡ n). last (p n) refl e)
+    (λ (l : j < n). earlier (p n) l (held-built p n j l))
+    (eq-or-lt-of-le (le-of-suc-le-suc h))
   where
+    one-more : held (withPlace (wordOf p n) n) j ≡ (eqb n j || held (wordOf p n) j)
+    one-more = held-taken (wordOf p n) n j (built-free p n)
+
     last : (b : Bool) → p n ≡ b → j ≡ n → held (wordOf p n + cond b (2 ^ n) 0) j ≡ p j
-    last true e q = held-taken (wordOf p n) n j (built-free p n) ∙ ap (λ (b : Bool). b || held (wordOf p n) j) (eq-eqb n j (sym q)) ∙ sym (ap p q ∙ e)
+    last true e q = one-more ∙ ap (λ (b : Bool). b || held (wordOf p n) j) (eq-eqb n j (sym q)) ∙ sym (ap p q ∙ e)
     last false e q = ap (λ (w : ℕ). held w j) (add-zero (wordOf p n)) ∙ ap (held (wordOf p n)) q ∙ built-free p n ∙ sym (ap p q ∙ e)
 
     earlier : (b : Bool) → j < n → held (wordOf p n) j ≡ p j → held (wordOf p n + cond b (2 ^ n) 0) j ≡ p j
-    earlier true l ih = held-taken (wordOf p n) n j (built-free p n) ∙ ap (λ (b : Bool). b || held (wordOf p n) j) (ne-eqb n j (λ q. omega arith)) ∙ ih
+    earlier true l ih = one-more ∙ ap (λ (b : Bool). b || held (wordOf p n) j) (ne-eqb n j (λ q. omega arith)) ∙ ih
     earlier false l ih = ap (λ (w : ℕ). held w j) (add-zero (wordOf p n)) ∙ ih

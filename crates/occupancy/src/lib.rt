@@ -3,13 +3,13 @@
 ghost use mathlib.Core.Path.{_≡_};
 ghost use mathlib.Core.Bool.{false};
 ghost use Prim.Native.Nat.{_^_, _<_};
-ghost use Rattle.occupancy.specs.Places.{held, freePlace, heldCount, withPlace};
+ghost use Rattle.occupancy.specs.Places.{places, held, freePlace, heldCount, withPlace};
 
 pub const PLACES: usize = 16;
 
 // The word in which place i alone is held.
 fn power(i: usize) -> u16
-    requires { ⌜ i < 16 ⌝ }
+    requires { ⌜ i < places ⌝ }
     ensures { λ r. ⌜ r ≡ 2 ^ i ⌝ }
 {
     1u16 << i
@@ -17,7 +17,7 @@ fn power(i: usize) -> u16
 
 // Whether place i is held.
 pub fn is_held(word: u16, i: usize) -> bool
-    requires { ⌜ i < 16 ⌝ }
+    requires { ⌜ i < places ⌝ }
     ensures { λ r. ⌜ r ≡ held word i ⌝ }
 {
     word / power(i) % 2 == 1
@@ -39,7 +39,7 @@ pub fn held_count(word: u16) -> u32
 
 // The word with its free place i taken.
 pub fn with_place(word: u16, i: usize) -> u16
-    requires { ⌜ (i < 16) × (held word i ≡ false) ⌝ }
+    requires { ⌜ (i < places) × (held word i ≡ false) ⌝ }
     ensures { λ r. ⌜ r ≡ withPlace word i ⌝ }
 {
     word + power(i)

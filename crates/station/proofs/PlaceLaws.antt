@@ -11,6 +11,7 @@ use native.Mathlib.Omega.{arith}
 use Rattle.wire.proofs.TableLaws.{both-true}
 use Rattle.occupancy.specs.Places.{places, held, freePlace}
 use Rattle.occupancy.proofs.LeastLaws.{least-is, least-below, least-here}
+use Rattle.occupancy.proofs.WordLaws.{lowest-is-free, below-is-held}
 use Rattle.pdu.specs.declared.Word.{Word}
 use Rattle.pdu.specs.declared.Word.the-variants.{Absent, Here}
 use Rattle.station.specs.Units.{unitAt, holds, placeOf, known}
@@ -68,24 +69,13 @@ module _ (s : Station) (key : ℕ) where
 
 -- ---- which place is free
 
-module _ (s : Station) where
-  -- the lowest-numbered free place
-  abbrev free : ℕ
-  free = freePlace (s .used)
+pub lowest-free : (s : Station) → ltb (freePlace (s .used)) places ≡ true → LowestFree s (freePlace (s .used))
+lowest-free s e =
+    let below = ltb-true _ _ e in
+    record { place = below; free = lowest-is-free (s .used) below; lowest = below-is-held (s .used) }
 
-  pub lowest-free : ltb free places ≡ true → LowestFree s free
-  lowest-free e =
-      let below = ltb-true free _ e in
-      record {
-        place = below;
-        free = not-true (held (s .used) free) (least-here (λ i. not (held (s .used) i)) places below);
-        lowest = λ j l. not-false (held (s .used) j) (least-below (λ i. not (held (s .used) i)) places j l);
-      }
-
-  pub none-free : ltb free places ≡ false → Full s
-  none-free e i l =
-      let past = ltb-false free _ e in
-      not-false (held (s .used) i) (least-below (λ j. not (held (s .used) j)) places i (omega (arith, past)))
+pub none-free : (s : Station) → ltb (freePlace (s .used)) places ≡ false → Full s
+none-free s e i l = below-is-held (s .used) i (omega (arith, ltb-false (freePlace (s .used)) _ e))
 
 -- ---- which IDs agree
 

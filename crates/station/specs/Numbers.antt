@@ -8,6 +8,10 @@ lastLevel = 4
 abbrev pub lastNet : ℕ
 lastNet = 127
 
+-- one more than the most that each of the four numbers of a key can be: they have two bytes each
+abbrev pub keyPart : ℕ
+keyPart = 65536
+
 -- the ID that matches all (01: "zero ID matches all"), and that a station has first
 abbrev pub anyId : ℕ
 anyId = 0

@@ -4,8 +4,9 @@ use mathlib.Core.Bool.{Bool, false, cond, _&&_, _||_}
 use lib.ListN.{getD, set, replicate}
 use lib.Dec.{eqb, ltb}
 use Rattle.occupancy.specs.Places.{places, held, least, heldCount, withPlace}
+use Rattle.pdu.specs.Numbers.{coarse, fine}
 use Rattle.pdu.specs.declared.Header.{Header}
-use Rattle.station.specs.Numbers.{lastLevel, lastNet, anyId}
+use Rattle.station.specs.Numbers.{lastLevel, lastNet, anyId, keyPart}
 use Rattle.station.specs.declared.State.{State}
 use Rattle.station.specs.declared.State.the-variants.{Waiting, Coarse, Fine}
 use Rattle.station.specs.declared.Standing.{Standing}
@@ -51,8 +52,8 @@ freshOwn level net =
 -- a number for each state: 01's synchronization states 2 and 3, and 0 for Waiting
 abbrev pub stateNumber : State → ℕ
 stateNumber Waiting = 0
-stateNumber Coarse = 2
-stateNumber Fine = 3
+stateNumber Coarse = coarse
+stateNumber Fine = fine
 
 -- ---- a station as it is made
 
@@ -75,7 +76,7 @@ made level net =
 
 -- the key of a PDU's unit: bytes 12 to 19 as one number (01: site, application, entity and radio "together are the unit's key")
 abbrev pub keyOf : Header → ℕ
-keyOf h = ((h .site * 65536 + h .application) * 65536 + h .entity) * 65536 + h .radio
+keyOf h = ((h .site * keyPart + h .application) * keyPart + h .entity) * keyPart + h .radio
 
 -- what stands in place i, whether or not the place is held
 abbrev pub unitAt : Station → ℕ → Unit

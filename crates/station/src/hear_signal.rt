@@ -13,6 +13,7 @@ use crate::Part;
 use crate::Standing;
 use crate::State;
 use crate::Unit;
+use crate::answers;
 use pdu::Signal;
 use pdu::Word;
 
@@ -113,7 +114,7 @@ fn net_entry(mut p: Part) -> Outcome
     if sender.state != pdu::FINE {
         return Outcome {
             part: p,
-            answer: 34,
+            answer: answers::NOT_FINE,
         };
     }
     let mut own = p.own;
@@ -122,7 +123,7 @@ fn net_entry(mut p: Part) -> Outcome
     p.own = own;
     Outcome {
         part: p,
-        answer: 42,
+        answer: answers::JOINED,
     }
 }
 
@@ -148,14 +149,14 @@ fn ppli(mut p: Part) -> Outcome
     if u.state != pdu::FINE {
         return Outcome {
             part: p,
-            answer: 34,
+            answer: answers::NOT_FINE,
         };
     }
     let unit = heard_unit(p.own.clock, u);
     p.unit = unit;
     Outcome {
         part: p,
-        answer: 43,
+        answer: answers::POSITIONED,
     }
 }
 
@@ -180,12 +181,12 @@ fn other(p: Part) -> Outcome
     if wire::both(u.inside, is_fine(state)) {
         return Outcome {
             part: p,
-            answer: 44,
+            answer: answers::PASSED,
         };
     }
     Outcome {
         part: p,
-        answer: 35,
+        answer: answers::NOT_IN,
     }
 }
 
@@ -207,20 +208,20 @@ pub(crate) fn signal(p: Part, g: Signal, word: Word) -> Outcome
     if occupancy::PLACES <= p.place {
         return Outcome {
             part: p,
-            answer: 31,
+            answer: answers::UNKNOWN_KEY,
         };
     }
     if g.network.net != p.own.settings.net {
         return Outcome {
             part: p,
-            answer: 32,
+            answer: answers::OTHER_NET,
         };
     }
     let u = p.unit;
     if other_id(p.own.standing.id, u.id) {
         return Outcome {
             part: p,
-            answer: 33,
+            answer: answers::OTHER_ID,
         };
     }
     taken(p, message(g.network.message_type, word))

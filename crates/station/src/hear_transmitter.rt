@@ -1,13 +1,14 @@
 // Hearing a Transmitter.
 ghost use mathlib.Core.Path.{_≡_};
 ghost use Prim.Native.Nat.{ℕ};
-ghost use Rattle.station.specs.Hearing.{newUnit, renewed, enter, renew, hearTransmitter};
+ghost use Rattle.station.specs.Hearing.{newUnit, renewed, enter, hearTransmitter};
 ghost use Rattle.station.specs.Units.{keyOf, placeOf};
-ghost use Rattle.station.specs.Parts.{slot, partOf, putBack};
+ghost use Rattle.station.specs.Parts.{partOf, putBack};
 ghost use Rattle.station.specs.declared.Station.{Station};
 use crate::Outcome;
 use crate::Part;
 use crate::Unit;
+use crate::answers;
 use pdu::Transmitter;
 
 // The entry of a unit heard for the first time.
@@ -47,7 +48,7 @@ fn enter_unit(mut p: Part, t: Transmitter) -> Outcome
     if occupancy::PLACES <= i {
         return Outcome {
             part: p,
-            answer: 30,
+            answer: answers::NO_ROOM,
         };
     }
     let used = occupancy::with_place(p.used, i);
@@ -57,30 +58,22 @@ fn enter_unit(mut p: Part, t: Transmitter) -> Outcome
     p.unit = unit;
     Outcome {
         part: p,
-        answer: 40,
+        answer: answers::ENTERED,
     }
 }
 
-// A Transmitter whose key is held in the part's place.
-fn renew_unit(mut p: Part, t: Transmitter) -> Outcome
-    ensures { λ r. ⌜ ((s : Station) (i : ℕ) → p ≡ partOf s i → putBack s r ≡ renew s (slot i) t) ⌝ }
+// A Transmitter: 40, 41 or 30.
+pub(crate) fn transmitter(mut p: Part, t: Transmitter) -> Outcome
+    ensures { λ r. ⌜ ((s : Station) → p ≡ partOf s (placeOf s (keyOf (t .header))) → putBack s r ≡ hearTransmitter s t) ⌝ }
 {
+    if occupancy::PLACES <= p.place {
+        return enter_unit(p, t);
+    }
     let u = p.unit;
     let unit = renewed_unit(u, t);
     p.unit = unit;
     Outcome {
         part: p,
-        answer: 41,
-    }
-}
-
-// A Transmitter: 40, 41 or 30.
-pub(crate) fn transmitter(p: Part, t: Transmitter) -> Outcome
-    ensures { λ r. ⌜ ((s : Station) → p ≡ partOf s (placeOf s (keyOf (t .header))) → putBack s r ≡ hearTransmitter s t) ⌝ }
-{
-    if p.place < occupancy::PLACES {
-        renew_unit(p, t)
-    } else {
-        enter_unit(p, t)
+        answer: answers::RENEWED,
     }
 }

@@ -10,10 +10,13 @@ ghost use Rattle.station.specs.declared.Station.{Station};
 use pdu::Header;
 use pdu::Reading;
 
+mod answers;
 mod hear_signal;
 mod hear_transmitter;
 mod pass_time;
-mod places;
+
+// Each of the four numbers of a key has two bytes.
+const KEY_PART: u64 = 65536;
 
 // The station's own state in the net.
 pub enum State {
@@ -51,14 +54,16 @@ pub struct Unit {
     pub inside: bool,
 }
 
-// A station; `used` is the word of held places, and what a free place holds means nothing. The entries stand first: with no gap before them they are copied as one block.
+// A station; `used` is the word of held places, and what a free place holds means nothing. The entries stand first: with no gap before them they
+// are copied as one block.
 pub struct Station {
     units: [Unit; occupancy::PLACES],
     own: Own,
     used: u16,
 }
 
-// What one datagram can touch of a station: its own fields, and the entry in the sender's place. An unknown sender's place is 16, and the entry that of place 0.
+// What one datagram can touch of a station: its own fields, its word, and the entry in the sender's place. An unknown sender's place is 16, and
+// the entry that of place 0.
 struct Part {
     own: Own,
     used: u16,
@@ -140,12 +145,12 @@ pub fn new(level: u8, net: u8) -> Made
     if wire::either(pdu::LAST_LEVEL < level, pdu::LAST_NET < net) {
         return Made {
             station: fresh_station(0, 0),
-            answer: 37,
+            answer: answers::BAD_SETTINGS,
         };
     }
     Made {
         station: fresh_station(level, net),
-        answer: 0,
+        answer: answers::MADE,
     }
 }
 
@@ -165,12 +170,12 @@ fn outcome_of(part: Part, read: Reading, datagram: &[u8]) -> Outcome
     }
 }
 
-// The station's call on a datagram: the reader's number, 30 to 35, or 40 to 44. The sender is looked for here and not by `place_of`, which would copy the entries.
+// The station's call on a datagram: the reader's number, 30 to 35, or 40 to 44. The sender is looked for here: to hand the entries to a function would copy them.
 pub fn hear(station: Station, datagram: &[u8]) -> Heard
     ensures { λ r. ⌜ r ≡ heard station (now (datagram .entry)) ⌝ }
 {
     let read = pdu::read(datagram);
-    let key = places::sender_key(read);
+    let key = sender_key(read);
     let mut units = station.units;
     let mut i = 0;
     while i < occupancy::PLACES {
@@ -213,12 +218,16 @@ pub fn clock(station: Station, t: u64) -> Heard
     if t < station.own.clock {
         return Heard {
             station,
-            answer: 36,
+            answer: answers::CLOCK_BACK,
         };
     }
+    let used = pass_time::survivors(station, t);
+    let mut after = station;
+    after.used = used;
+    after.own.clock = t;
     Heard {
-        station: pass_time::at_time(station, t),
-        answer: 46,
+        station: after,
+        answer: answers::TIME_PASSED,
     }
 }
 
@@ -226,8 +235,19 @@ pub fn clock(station: Station, t: u64) -> Heard
 pub fn key_of(h: Header) -> u64
     ensures { λ r. ⌜ r ≡ keyOf h ⌝ }
 {
-    let pair = h.site as u64 * 65536 + h.application as u64;
-    (pair * 65536 + h.entity as u64) * 65536 + h.radio as u64
+    let pair = h.site as u64 * KEY_PART + h.application as u64;
+    (pair * KEY_PART + h.entity as u64) * KEY_PART + h.radio as u64
+}
+
+// The key of the PDU that was read; 0 where it was refused.
+fn sender_key(reading: Reading) -> u64
+    ensures { λ r. ⌜ r ≡ senderKey reading ⌝ }
+{
+    match reading {
+        Reading::Refused(_) => 0,
+        Reading::Transmitter(t) => key_of(t.header),
+        Reading::Signal(g, _) => key_of(g.header),
+    }
 }
 
 pub fn level_of(station: Station) -> u8
@@ -261,8 +281,8 @@ pub fn state_number(state: State) -> u8
 {
     match state {
         State::Waiting => 0,
-        State::Coarse => 2,
-        State::Fine => 3,
+        State::Coarse => pdu::COARSE,
+        State::Fine => pdu::FINE,
     }
 }
 
@@ -283,13 +303,16 @@ pub fn units_held(station: Station) -> u32
 pub fn look(station: Station, key: u64) -> Seen
     ensures { λ r. ⌜ r ≡ seenOf station key ⌝ }
 {
-    let i = places::place_of(station, key);
-    if i < occupancy::PLACES {
+    let mut i = 0;
+    while i < occupancy::PLACES {
         let u = station.units[i];
-        return Seen::Known {
-            inside: u.inside,
-            last: u.last,
-        };
+        if wire::both(occupancy::is_held(station.used, i), u.key == key) {
+            return Seen::Known {
+                inside: u.inside,
+                last: u.last,
+            };
+        }
+        i += 1;
     }
     Seen::Unknown
 }

@@ -2,9 +2,10 @@
 ghost use mathlib.Core.Path.{_≡_};
 ghost use Prim.Native.Nat.{_-_};
 ghost use Rattle.occupancy.specs.Places.{places, wordOf};
-ghost use Rattle.station.specs.Clock.{silent, stays, atTime};
+ghost use Rattle.station.specs.Clock.{silent, stays};
 use crate::Station;
 
+// The seconds without a PPLI after which a unit is absent.
 const ABSENCE: u64 = 60;
 
 // The seconds from `last` to t; none where t is earlier.
@@ -22,7 +23,7 @@ fn is_silent(t: u64, last: u64) -> bool
 }
 
 // The word of the places that stay held at t.
-fn survivors(s: Station, t: u64) -> u16
+pub(crate) fn survivors(s: Station, t: u64) -> u16
     ensures { λ r. ⌜ r ≡ wordOf (stays s t) places ⌝ }
 {
     let mut word: u16 = 0;
@@ -38,14 +39,4 @@ fn survivors(s: Station, t: u64) -> u16
         i += 1;
     }
     word
-}
-
-// The station at t.
-pub(crate) fn at_time(mut s: Station, t: u64) -> Station
-    ensures { λ r. ⌜ r ≡ atTime s t ⌝ }
-{
-    let used = survivors(s, t);
-    s.used = used;
-    s.own.clock = t;
-    s
 }

@@ -4,6 +4,7 @@ use Prim.Native.Nat.{ℕ, _+_, _<_}
 use mathlib.Core.Path.{sym, ap, subst}
 use borrow.Author.Needs.{needs}
 use Rattle.occupancy.proofs.WordLaws.{taken-fits}
+use Rattle.occupancy.specs.Places.{places}
 use Rattle.occupancy.proofs.with_place.Statement.{statement}
 use Rattle.occupancy.proofs.with_place.Tie as tie
 
@@ -16,7 +17,7 @@ add-result c =
     record {
       fits =
           subst (λ (n : ℕ). given .word + n < 65536) (sym (c .power .ensures))
-          (taken-fits 16 (given .word) (given .i) (search needs) (c .before .pre .0) (c .before .pre .1));
+          (taken-fits places (given .word) (given .i) (search needs) (c .before .pre .0) (c .before .pre .1));
     }
 
 returns : tie.Need-returns

@@ -18,15 +18,19 @@ element-copy-out-u c = search needs
 
 returns : tie.Need-returns
 unfolding placeAt
-returns c = rw (lt-ltb (c .before .before .before .before .args .i) 16 (c .before .before .before .if1 .taken), sym (c .before .before .is-held .ensures) ∙ c .before .if2 .taken)
+returns c =
+    let asked = c .before .before in
+    rw (lt-ltb _ _ (asked .before .if1 .taken), sym (asked .is-held .ensures) ∙ c .before .if2 .taken)
 
 returns-2 : tie.Need-returns-2
 unfolding placeAt
-returns-2 c = rw (lt-ltb (c .before .before .before .args .i) 16 (c .before .before .if1 .taken), sym (c .before .is-held .ensures) ∙ c .if2 .left)
+returns-2 c =
+    let asked = c .before in
+    rw (lt-ltb _ _ (asked .before .if1 .taken), sym (asked .is-held .ensures) ∙ c .if2 .left)
 
 returns-3 : tie.Need-returns-3
 unfolding placeAt
-returns-3 c = rw (le-ltb (c .before .args .i) 16 (c .if1 .left))
+returns-3 c = rw (le-ltb _ _ (c .if1 .left))
 
 pub at-spec : {M : Type 1} → statement M
 at-spec =

@@ -1,9 +1,8 @@
--- The clock call answers and leaves what the rule says. The test on the clock decides between 36 and the station at the new time.
+-- The clock call answers and leaves what the rule says. The test on the clock decides between 36 and the
+-- station at the new time: its word is rebuilt and its clock set, and nothing else changes.
 -- Assumes nothing.
-use mathlib.Core.Path.{ap}
 use borrow.Author.Tests.{lt-ltb, le-ltb}
-use Rattle.station.specs.Clock.{clocked}
-use Rattle.station.specs.Hearing.{answering}
+use Rattle.station.specs.Clock.{atTime, clocked}
 use borrow.Author.Needs.{needs}
 use Rattle.station.proofs.clock.Statement.{statement}
 use Rattle.station.proofs.clock.Tie as tie
@@ -12,12 +11,12 @@ returns : tie.Need-returns
 unfolding clocked
 returns c = rw (lt-ltb _ _ (c .if1 .taken))
 
-at-time-requires : tie.Need-at-time-requires
-at-time-requires c κs = search needs
+survivors-requires : tie.Need-survivors-requires
+survivors-requires c κs = search needs
 
 returns-2 : tie.Need-returns-2
-unfolding clocked
-returns-2 c = rw (le-ltb _ _ (c .before .if1 .left)) (ap (answering 46) (c .at-time .ensures))
+unfolding clocked atTime
+returns-2 c = rw (le-ltb _ _ (c .before .before .if1 .left), c .before .survivors .ensures)
 
 pub clock-spec : {M : Type 1} → statement M
-clock-spec = tie.close (tie.spec returns at-time-requires returns-2)
+clock-spec = tie.close (tie.spec returns survivors-requires returns-2)

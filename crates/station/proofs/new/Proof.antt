@@ -14,14 +14,18 @@ fresh-station-requires c κs = search needs
 
 returns : tie.Need-returns
 unfolding made
-returns c = rw (sym (c .before .before .either .ensures) ∙ c .before .if1 .taken) (λ i. record { station = c .fresh-station .ensures i; answer = 37 })
+returns c =
+    let bad = sym (c .before .before .either .ensures) ∙ c .before .if1 .taken in
+    rw (bad, c .fresh-station .ensures)
 
 fresh-station-requires-2 : tie.Need-fresh-station-requires-2
 fresh-station-requires-2 c κs = search needs
 
 returns-2 : tie.Need-returns-2
 unfolding made
-returns-2 c = rw (sym (c .before .before .either .ensures) ∙ c .before .if1 .left) (λ i. record { station = c .fresh-station2 .ensures i; answer = 0 })
+returns-2 c =
+    let good = sym (c .before .before .either .ensures) ∙ c .before .if1 .left in
+    rw (good, c .fresh-station2 .ensures)
 
 pub new-spec : {M : Type 1} → statement M
 new-spec =

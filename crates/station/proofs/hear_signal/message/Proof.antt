@@ -1,10 +1,16 @@
--- What a Signal says is the definition's. An absent word, and a word that is not initial or not of type 0, say nothing; any other word says what its label says.
+-- What a Signal says is the definition's. An absent word, and a word that is not initial or not of type 0, say nothing; any other word says what
+-- its label says.
 -- Assumes nothing.
 use Rattle.station.specs.Hearing.{messageOf}
 use mathlib.Core.Path.{sym, ap, _∙_}
+use Prim.Native.Nat.{ℕ}
 use borrow.Author.Needs.{needs}
 use Rattle.station.proofs.hear_signal.message.Statement.{statement}
 use Rattle.station.proofs.hear_signal.message.Tie as tie
+
+-- the message type that the call was given
+abbrev kind : tie.After-word → ℕ
+kind c = c .before .before .args .kind
 
 enum-told : tie.Need-enum-told
 enum-told c = search needs
@@ -24,11 +30,17 @@ returns c = sym (ap (messageOf (c .before .before .args .kind)) (c .enum-told .g
 
 returns-2 : tie.Need-returns-2
 unfolding messageOf
-returns-2 c = c .labelled-message .ensures ∙ sym (ap (messageOf (c .before .before .before .before .before .before .args .kind)) (c .before .before .before .before .word .given .1) ∙ rw (sym (c .before .before .both .ensures) ∙ c .before .if1 .taken))
+returns-2 c =
+    let asked = c .before .before in
+    let word = asked .before .before in
+    c .labelled-message .ensures ∙ sym (ap (messageOf (kind word)) (word .word .given .1) ∙ rw (sym (asked .both .ensures) ∙ c .before .if1 .taken))
 
 returns-3 : tie.Need-returns-3
 unfolding messageOf
-returns-3 c = sym (ap (messageOf (c .before .before .before .before .before .args .kind)) (c .before .before .before .word .given .1) ∙ rw (sym (c .before .both .ensures) ∙ c .if1 .left))
+returns-3 c =
+    let asked = c .before in
+    let word = asked .before .before in
+    sym (ap (messageOf (kind word)) (word .word .given .1) ∙ rw (sym (asked .both .ensures) ∙ c .if1 .left))
 
 pub message-spec : {M : Type 1} → statement M
 message-spec =

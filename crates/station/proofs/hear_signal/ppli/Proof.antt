@@ -12,8 +12,7 @@ use Rattle.station.proofs.hear_signal.ppli.Tie as tie
 returns : tie.Need-returns
 unfolding hearMessage
 returns c = λ s i e.
-    let p = c .before .before .before .args .p in
-    rw (sym (ap (λ (q : Part). q .unit) e), differs _ _ (c .if1 .taken)) (kept s i 34 p e)
+    rw (sym (ap (λ (q : Part). q .unit) e), differs _ _ (c .if1 .taken)) (kept s i _ (c .before .before .before .args .p) e)
 
 heard-unit-requires : tie.Need-heard-unit-requires
 heard-unit-requires c κs = search needs

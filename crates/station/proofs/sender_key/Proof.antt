@@ -3,8 +3,8 @@
 use mathlib.Core.Path.{sym, ap, _∙_}
 use Rattle.station.specs.Parts.{senderKey}
 use borrow.Author.Needs.{needs}
-use Rattle.station.proofs.places.sender_key.Statement.{statement}
-use Rattle.station.proofs.places.sender_key.Tie as tie
+use Rattle.station.proofs.sender_key.Statement.{statement}
+use Rattle.station.proofs.sender_key.Tie as tie
 
 enum-told : tie.Need-enum-told
 enum-told c = search needs
