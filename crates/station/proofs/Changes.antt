@@ -21,7 +21,8 @@ use Rattle.station.specs.Plain.{Sized, Sender, Agree}
 use Rattle.station.specs.Hearing.{step, heard}
 use Rattle.station.specs.Runs.{Call, datagram, time}
 use Rattle.station.specs.Table.{IsSignal, Passed, Table, nothing, entered, again, joined, positioned, ticked}
-use Rattle.station.specs.Claims.{UnreadChangesNothing, RefusalsChangeNothing, Outsider, unknown, elsewhere, another, coarse, OutsidersChangeNothing, AdmitsNoOne, TransmittersAdmitNoOne, ClockNeverBack}
+use Rattle.station.specs.Claims.{UnreadChangesNothing, RefusalsChangeNothing, Outsider, unknown, elsewhere, another, coarse}
+use Rattle.station.specs.Claims.{OutsidersChangeNothing, AdmitsNoOne, TransmittersAdmitNoOne, ClockNeverBack}
 use Rattle.station.specs.declared.Station.{Station}
 use Rattle.station.specs.declared.Own.{Own}
 use Rattle.station.proofs.PlaceLaws.{sender-place, agree-clash}

@@ -12,7 +12,8 @@ use Rattle.station.specs.Units.{levelOf, netOf, idOf, stateOf, keyOf, fr
 use Rattle.station.specs.Plain.{Sized}
 use Rattle.station.specs.Hearing.{answering, signalRules, afterJ00, hearMessage, hearSignal, step, firstWord, heard}
 use Rattle.station.specs.Runs.{Call, called, after}
-use Rattle.station.specs.Table.{Joined, Unchanged, unread, no-room, stranger, other-net, other-id, not-fine, not-in, passed, back, Table, nothing, entered, again, joined, positioned, ticked}
+use Rattle.station.specs.Table.{Joined, Unchanged, unread, no-room, stranger, other-net, other-id, not-fine, not-in, passed, back}
+use Rattle.station.specs.Table.{Table, nothing, entered, again, joined, positioned, ticked}
 use Rattle.station.specs.Claims.{Joins, Answered42, Some, JoinsFine, Answered, InNet}
 use Rattle.station.specs.declared.State.{State}
 use Rattle.station.specs.declared.State.the-variants.{Waiting, Coarse, Fine}

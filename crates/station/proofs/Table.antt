@@ -22,10 +22,14 @@ use Rattle.pdu.specs.declared.Reading.{Reading}
 use Rattle.pdu.specs.declared.Reading.the-variants.{Refused, Transmitter as aTransmitter, Signal as aSignal}
 use Rattle.station.specs.Units.{levelOf, netOf, idOf, stateOf, clockOf, keyOf, blank, unitAt, placeOf, known, withUnit, withNew}
 use Rattle.station.specs.Plain.{Sized, LowestFree}
-use Rattle.station.specs.Hearing.{answering, unless, newUnit, renewed, enter, renew, hearTransmitter, otherId, senderOf, signalRules, messageOf, stateAfter, bothCoarse, afterJ00, afterPpli, heardUnit, isFine, hearMessage, hearSignal, step, firstWord, heard}
+use Rattle.station.specs.Hearing.{answering, unless, newUnit, renewed, enter, renew, hearTransmitter, otherId, senderOf, signalRules}
+use Rattle.station.specs.Hearing.{messageOf, stateAfter, bothCoarse, afterJ00, afterPpli, heardUnit, isFine, hearMessage, hearSignal}
+use Rattle.station.specs.Hearing.{step, firstWord, heard}
 use Rattle.station.specs.Clock.{silent, stays, atTime, clocked}
 use Rattle.station.specs.Runs.{Call, datagram, time}
-use Rattle.station.specs.Table.{IsSignal, Passed, SameElse, Entered, Renewed, Joined, Positioned, Ticked, Unchanged, unread, no-room, stranger, other-net, other-id, not-fine, not-in, passed, back, Table, nothing, entered, again, joined, positioned, ticked}
+use Rattle.station.specs.Table.{IsSignal, Passed, SameElse, Entered, Renewed, Joined, Positioned, Ticked, Unchanged, unread, no-room}
+use Rattle.station.specs.Table.{stranger, other-net, other-id, not-fine, not-in, passed, back, Table, nothing, entered, again, joined}
+use Rattle.station.specs.Table.{positioned, ticked}
 use Rattle.station.specs.Claims.{OnlyByRules}
 use Rattle.station.specs.declared.State.{State}
 use Rattle.station.specs.declared.State.the-variants.{Waiting, Coarse, Fine}
@@ -34,7 +38,8 @@ use Rattle.station.specs.declared.Station.{Station}
 use Rattle.station.specs.declared.Heard.{Heard}
 use Rattle.station.specs.declared.Message.{Message}
 use Rattle.station.specs.declared.Message.the-variants.{NetEntry, Ppli, Other}
-use Rattle.station.proofs.PlaceLaws.{sender-known, stranger-unknown, lowest-free, none-free, clash, agree, j00-said, ppli-said, other-said, is-fine}
+use Rattle.station.proofs.PlaceLaws.{sender-known, stranger-unknown, lowest-free, none-free, clash, agree, j00-said, ppli-said}
+use Rattle.station.proofs.PlaceLaws.{other-said, is-fine}
 
 -- an outcome that is in the table
 abbrev Tabled : Station → Call → Heard → Type 0
@@ -163,7 +168,8 @@ state-kept Fine h = refl
 pub joined-row : (s : Station) (u : Unit) → Joined s u (afterJ00 s u)
 unfolding afterJ00
 joined-row s u =
-    let by : (b : Bool) → bothCoarse (levelOf s) (u .level) ≡ b → stateAfter (bothCoarse (levelOf s) (u .level)) (stateOf s) ≡ stateAfter b (stateOf s) =
+    let both = bothCoarse (levelOf s) (u .level) in
+    let by : (b : Bool) → both ≡ b → stateAfter both (stateOf s) ≡ stateAfter b (stateOf s) =
     (λ b e. ap (λ (c : Bool). stateAfter c (stateOf s)) e) in
     record {
       settings = refl;

@@ -1,5 +1,6 @@
 -- Two runs of one station, which show that what the theorems speak of happens. A unit is heard, its J0.0 and its PPLI are taken and its
--- traffic is passed; it is held at 59 seconds and gone at 60. At level 4 on both sides the same J0.0 leaves the station Coarse, and traffic is not passed.
+-- traffic is passed; it is held at 59 seconds and gone at 60. At level 4 on both sides the same J0.0 leaves the station Coarse, and traffic is
+-- not passed.
 use Prim.Native.Nat.{ℕ, _*_}
 use mathlib.Core.Path.{_≡_}
 use mathlib.Core.List.{List, [], _∷_, _++_}

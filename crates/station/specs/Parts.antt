@@ -1,4 +1,5 @@
--- The part of a station that one datagram can touch, and a station with such a part put back. The promises of private functions speak of it, and no public one does.
+-- The part of a station that one datagram can touch, and a station with such a part put back. The promises of private functions speak of it, and
+-- no public one does.
 use Prim.Native.Nat.{ℕ, _%_}
 use mathlib.Core.List.{List}
 use lib.ListN.{set}

@@ -1,7 +1,8 @@
 // Hearing a Signal.
 ghost use mathlib.Core.Path.{_≡_};
 ghost use Prim.Native.Nat.{ℕ};
-ghost use Rattle.station.specs.Hearing.{otherId, labelled, messageOf, idAfter, stateAfter, standingAfter, heardUnit, isFine, hearMessage, hearSignal};
+ghost use Rattle.station.specs.Hearing.{otherId, labelled, messageOf, idAfter, stateAfter, standingAfter, heardUnit, isFine};
+ghost use Rattle.station.specs.Hearing.{hearMessage, hearSignal};
 ghost use Rattle.station.specs.Units.{keyOf, placeOf};
 ghost use Rattle.station.specs.Parts.{slot, partOf, putBack};
 ghost use Rattle.station.specs.declared.Station.{Station};

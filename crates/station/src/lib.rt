@@ -2,7 +2,8 @@
 // Every public call takes every station and every argument, and is promised as a whole answer and a whole station after it.
 ghost use mathlib.Core.Path.{_≡_};
 ghost use Rattle.pdu.specs.Reading.{reading};
-ghost use Rattle.station.specs.Units.{levelOf, netOf, idOf, stateOf, clockOf, keyOf, fresh, made, stateNumber, placeOf, unitsHeld, seenOf, placeAt};
+ghost use Rattle.station.specs.Units.{levelOf, netOf, idOf, stateOf, clockOf, keyOf, fresh, made, stateNumber, placeOf, unitsHeld};
+ghost use Rattle.station.specs.Units.{seenOf, placeAt};
 ghost use Rattle.station.specs.Hearing.{heard};
 ghost use Rattle.station.specs.Parts.{senderKey, partOf, putBack};
 ghost use Rattle.station.specs.Clock.{clocked};
@@ -170,7 +171,8 @@ fn outcome_of(part: Part, read: Reading, datagram: &[u8]) -> Outcome
     }
 }
 
-// The station's call on a datagram: the reader's number, 30 to 35, or 40 to 44. The sender is looked for here: to hand the entries to a function would copy them.
+// The station's call on a datagram: the reader's number, 30 to 35, or 40 to 44. The sender is looked for here: to hand the entries to a function
+// would copy them.
 pub fn hear(station: Station, datagram: &[u8]) -> Heard
     ensures { λ r. ⌜ r ≡ heard station (now (datagram .entry)) ⌝ }
 {
