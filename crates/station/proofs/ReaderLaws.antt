@@ -3,18 +3,18 @@
 -- the datagram, and the first rule that is broken is one of them.
 -- Assumes nothing.
 use Prim.Native.Nat.{ℕ}
-use mathlib.Core.Path.{_≡_, refl, _∙_}
+use mathlib.Core.Path.{_≡_, refl, sym, ap, _∙_}
 use mathlib.Core.Bool.{Bool, true, false, cond, not, _&&_}
 use mathlib.Core.List.{List, [], _∷_}
 use lib.Dec.{eqb}
 use borrow.Author.Tests.{eqb-false, not-true}
-use native.Mathlib.Omega.{arith}
 use Rattle.wire.specs.Bytes.{num}
 use Rattle.wire.specs.First.{Refusal, _given-when_, first}
 use Rattle.wire.proofs.TableLaws.{both-true}
-use Rattle.pdu.specs.Records.{transmitterOf, signalOf}
-use Rattle.pdu.specs.Reading.{networkRules, bodyRules, transmitterRules, signalRules, readingRules, refusal, content, reading, bodySize}
-use Rattle.pdu.specs.declared.Reading.the-variants.{Refused, Transmitter, Signal}
+use Rattle.pdu.specs.Numbers.{transmitterType}
+use Rattle.pdu.specs.Reading.{networkRules, bodyRules, transmitterRules, signalRules, readingRules, refusal, reading, numberOf}
+use Rattle.pdu.specs.declared.Reading.the-variants.{Refused}
+use Rattle.pdu.proofs.TakenExactly.{refusal-read}
 -- a test of two numbers, opened; and where a taken Signal's body stands
 pub use Rattle.pdu.proofs.ReadingLaws.{differs, agrees}
 pub use Rattle.pdu.proofs.Carried.{body-there}
@@ -32,19 +32,11 @@ first-lacks k ((n given-when false) ∷ rest) e z q = first-lacks k rest (both-t
 
 -- a datagram that reading refuses is not refused with 42
 pub refused-not-42 : (d : List ℕ) (n : ℕ) → reading d ≡ Refused n → n ≡ 42 → ⊥
-unfolding reading content refusal readingRules transmitterRules signalRules networkRules bodyRules
-refused-not-42 d n e q = go (eqb (refusal d) 0) e
+unfolding refusal readingRules transmitterRules signalRules networkRules bodyRules
+refused-not-42 d n e q =
+    first-lacks 42 (readingRules d) (listed (eqb (num 1 2 d) transmitterType)) (eqb-false 0 42 refl)
+    (sym (refusal-read d) ∙ ap numberOf e ∙ q)
   where
     listed : (b : Bool) → lacks 42 (cond b (transmitterRules d) (signalRules d)) ≡ true
     listed true = refl
     listed false = refl
-
-    typed : (b : Bool) → cond b (Transmitter (transmitterOf d)) (Signal (signalOf d) (bodySize d)) ≡ Refused n → ⊥
-    typed true f = let z : _≡_ {A = ℕ} 0 1 = cc in omega arith
-    typed false f = let z : _≡_ {A = ℕ} 0 1 = cc in omega arith
-
-    go : (b : Bool) → cond b (content d) (Refused (refusal d)) ≡ Refused n → ⊥
-    go true f = typed (eqb (num 1 2 d) 25) f
-    go false f =
-        let same : refusal d ≡ n = cc in
-        first-lacks 42 (readingRules d) (listed (eqb (num 1 2 d) 25)) (eqb-false 0 42 refl) (same ∙ q)

@@ -1,12 +1,13 @@
 -- The part of a station that one datagram can touch, and a station with such a part put back. The promises of private functions speak of it, and
 -- no public one does.
 use Prim.Native.Nat.{ℕ, _%_}
+use mathlib.Core.Path.{_≡_}
 use mathlib.Core.List.{List}
 use lib.ListN.{set}
 use Rattle.occupancy.specs.Places.{places}
 use Rattle.pdu.specs.declared.Reading.{Reading}
 use Rattle.pdu.specs.declared.Reading.the-variants.{Refused, Transmitter as aTransmitter, Signal as aSignal}
-use Rattle.station.specs.Units.{keyOf, unitAt}
+use Rattle.station.specs.Units.{keyOf, unitAt, placeOf}
 use Rattle.station.specs.Hearing.{answering}
 use Rattle.station.specs.declared.Unit.{Unit}
 use Rattle.station.specs.declared.Station.{Station}
@@ -35,3 +36,11 @@ stationOf p units = record { units = units; own = p .own; used = p .used }
 -- what a call answers and leaves, where it made this outcome of a part of the station s
 abbrev pub putBack : Station → Outcome → Heard
 putBack s o = answering (o .answer) (stationOf (o .part) (set (s .units) (slot (o .part .place)) (o .part .unit)))
+
+-- whatever station and place the part is of, its outcome, put back, is what the rule makes of that station and place
+abbrev pub Decides : (Station → ℕ → Heard) → Part → Outcome → Type 0
+Decides rule p o = (s : Station) (i : ℕ) → p ≡ partOf s i → putBack s o ≡ rule s (slot i)
+
+-- the same of a part with the place of this key
+abbrev pub DecidesFor : ℕ → (Station → Heard) → Part → Outcome → Type 0
+DecidesFor key rule p o = (s : Station) → p ≡ partOf s (placeOf s key) → putBack s o ≡ rule s

@@ -1,11 +1,9 @@
 // Hearing a Signal.
 ghost use mathlib.Core.Path.{_≡_};
-ghost use Prim.Native.Nat.{ℕ};
 ghost use Rattle.station.specs.Hearing.{otherId, labelled, messageOf, idAfter, stateAfter, standingAfter, heardUnit, isFine};
 ghost use Rattle.station.specs.Hearing.{hearMessage, hearSignal};
-ghost use Rattle.station.specs.Units.{keyOf, placeOf};
-ghost use Rattle.station.specs.Parts.{slot, partOf, putBack};
-ghost use Rattle.station.specs.declared.Station.{Station};
+ghost use Rattle.station.specs.Units.{keyOf};
+ghost use Rattle.station.specs.Parts.{Decides, DecidesFor};
 ghost use Rattle.station.specs.declared.Message.the-variants.{NetEntry, Ppli, Other};
 use crate::Message;
 use crate::Outcome;
@@ -109,7 +107,7 @@ fn standing_after(own: Own, sender: Unit) -> Standing
 
 // A J0.0 from the part's unit: 34 or 42.
 fn net_entry(mut p: Part) -> Outcome
-    ensures { λ r. ⌜ ((s : Station) (i : ℕ) → p ≡ partOf s i → putBack s r ≡ hearMessage s (slot i) NetEntry) ⌝ }
+    ensures { λ r. ⌜ Decides (λ s i. hearMessage s i NetEntry) p r ⌝ }
 {
     let sender = p.unit;
     if sender.state != pdu::FINE {
@@ -144,7 +142,7 @@ fn heard_unit(now: u64, u: Unit) -> Unit
 
 // A PPLI from the part's unit: 34 or 43.
 fn ppli(mut p: Part) -> Outcome
-    ensures { λ r. ⌜ ((s : Station) (i : ℕ) → p ≡ partOf s i → putBack s r ≡ hearMessage s (slot i) Ppli) ⌝ }
+    ensures { λ r. ⌜ Decides (λ s i. hearMessage s i Ppli) p r ⌝ }
 {
     let u = p.unit;
     if u.state != pdu::FINE {
@@ -174,7 +172,7 @@ fn is_fine(state: State) -> bool
 
 // All else from the part's unit: 35 or 44.
 fn other(p: Part) -> Outcome
-    ensures { λ r. ⌜ ((s : Station) (i : ℕ) → p ≡ partOf s i → putBack s r ≡ hearMessage s (slot i) Other) ⌝ }
+    ensures { λ r. ⌜ Decides (λ s i. hearMessage s i Other) p r ⌝ }
 {
     let u = p.unit;
     let standing = p.own.standing;
@@ -193,7 +191,7 @@ fn other(p: Part) -> Outcome
 
 // A message that passed 31, 32 and 33, from the part's unit.
 fn taken(p: Part, m: Message) -> Outcome
-    ensures { λ r. ⌜ ((s : Station) (i : ℕ) → p ≡ partOf s i → putBack s r ≡ hearMessage s (slot i) m) ⌝ }
+    ensures { λ r. ⌜ Decides (λ s i. hearMessage s i m) p r ⌝ }
 {
     match m {
         Message::NetEntry => net_entry(p),
@@ -204,7 +202,7 @@ fn taken(p: Part, m: Message) -> Outcome
 
 // A Signal and the first word of its body: 31 to 35, or 42 to 44.
 pub(crate) fn signal(p: Part, g: Signal, word: Word) -> Outcome
-    ensures { λ r. ⌜ ((s : Station) → p ≡ partOf s (placeOf s (keyOf (g .header))) → putBack s r ≡ hearSignal s g word) ⌝ }
+    ensures { λ r. ⌜ DecidesFor (keyOf (g .header)) (λ s. hearSignal s g word) p r ⌝ }
 {
     if occupancy::PLACES <= p.place {
         return Outcome {

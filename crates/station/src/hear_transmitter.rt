@@ -1,10 +1,8 @@
 // Hearing a Transmitter.
 ghost use mathlib.Core.Path.{_≡_};
-ghost use Prim.Native.Nat.{ℕ};
 ghost use Rattle.station.specs.Hearing.{newUnit, renewed, enter, hearTransmitter};
-ghost use Rattle.station.specs.Units.{keyOf, placeOf};
-ghost use Rattle.station.specs.Parts.{partOf, putBack};
-ghost use Rattle.station.specs.declared.Station.{Station};
+ghost use Rattle.station.specs.Units.{keyOf};
+ghost use Rattle.station.specs.Parts.{Decides, DecidesFor};
 use crate::Outcome;
 use crate::Part;
 use crate::Unit;
@@ -42,7 +40,7 @@ fn renewed_unit(u: Unit, t: Transmitter) -> Unit
 
 // A Transmitter whose key is unknown.
 fn enter_unit(mut p: Part, t: Transmitter) -> Outcome
-    ensures { λ r. ⌜ ((s : Station) (i : ℕ) → p ≡ partOf s i → putBack s r ≡ enter s t) ⌝ }
+    ensures { λ r. ⌜ Decides (λ s i. enter s t) p r ⌝ }
 {
     let i = occupancy::free_place(p.used);
     if occupancy::PLACES <= i {
@@ -64,7 +62,7 @@ fn enter_unit(mut p: Part, t: Transmitter) -> Outcome
 
 // A Transmitter: 40, 41 or 30.
 pub(crate) fn transmitter(mut p: Part, t: Transmitter) -> Outcome
-    ensures { λ r. ⌜ ((s : Station) → p ≡ partOf s (placeOf s (keyOf (t .header))) → putBack s r ≡ hearTransmitter s t) ⌝ }
+    ensures { λ r. ⌜ DecidesFor (keyOf (t .header)) (λ s. hearTransmitter s t) p r ⌝ }
 {
     if occupancy::PLACES <= p.place {
         return enter_unit(p, t);

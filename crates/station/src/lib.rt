@@ -2,12 +2,11 @@
 // Every public call takes every station and every argument, and is promised as a whole answer and a whole station after it.
 ghost use mathlib.Core.Path.{_≡_};
 ghost use Rattle.pdu.specs.Reading.{reading};
-ghost use Rattle.station.specs.Units.{levelOf, netOf, idOf, stateOf, clockOf, keyOf, fresh, made, stateNumber, placeOf, unitsHeld};
+ghost use Rattle.station.specs.Units.{levelOf, netOf, idOf, stateOf, clockOf, keyOf, fresh, made, stateNumber, unitsHeld};
 ghost use Rattle.station.specs.Units.{seenOf, placeAt};
 ghost use Rattle.station.specs.Hearing.{heard};
-ghost use Rattle.station.specs.Parts.{senderKey, partOf, putBack};
+ghost use Rattle.station.specs.Parts.{senderKey, DecidesFor};
 ghost use Rattle.station.specs.Clock.{clocked};
-ghost use Rattle.station.specs.declared.Station.{Station};
 use pdu::Header;
 use pdu::Reading;
 
@@ -158,7 +157,7 @@ pub fn new(level: u8, net: u8) -> Made
 // What a reading of the datagram makes of the part with its sender's place.
 fn outcome_of(part: Part, read: Reading, datagram: &[u8]) -> Outcome
     requires { ⌜ read ≡ reading (now datagram) ⌝ }
-    ensures { λ r. ⌜ ((s : Station) → part ≡ partOf s (placeOf s (senderKey read)) → putBack s r ≡ heard s (now (datagram .entry))) ⌝ }
+    ensures { λ r. ⌜ DecidesFor (senderKey read) (λ s. heard s (now (datagram .entry))) part r ⌝ }
 {
     match read {
         Reading::Refused(n) => Outcome { part, answer: n },
