@@ -26,7 +26,7 @@ use Rattle.station.proofs.ReaderLaws.{refused-not-42}
 use Rattle.station.proofs.PlaceLaws.{sender-place, agreeing, says-j00}
 use Rattle.station.proofs.Table.{joined-row, only-by-rules}
 use Rattle.station.proofs.Changes.{same-or-not}
-use Rattle.station.proofs.RunLaws.{of-made, kept-by-all, made-by-some, traced, some-are}
+use Rattle.station.proofs.RunLaws.{of-made, made-by-some, traced, some-are}
 
 -- ---- a J0.0 that is taken
 

@@ -1,12 +1,12 @@
 -- The tests of the station's rules in plain terms: where a key stands, which place is free, which IDs agree, and what a first word says.
 -- Each test is opened once here, by cases on what it answers, so that the table and the theorems speak of places, keys and labels only.
 -- Assumes nothing.
-use Prim.Native.Nat.{ℕ, _<_, _≤_}
+use Prim.Native.Nat.{ℕ}
 use mathlib.Core.Path.{_≡_, refl, sym, ap, _∙_}
 use mathlib.Core.Bool.{Bool, true, false, cond, not, _&&_, _||_, true≢false}
 use mathlib.Core.Logic.{inl, inr}
 use lib.Dec.{eqb, ltb}
-use borrow.Author.Tests.{eqb-true, eqb-false, eq-eqb, ltb-true, ltb-false, not-true, not-false}
+use borrow.Author.Tests.{eqb-true, eqb-false, eq-eqb, ltb-true, ltb-false}
 use native.Mathlib.Omega.{arith}
 use Rattle.wire.proofs.TableLaws.{both-true}
 use Rattle.occupancy.specs.Places.{places, held, freePlace}

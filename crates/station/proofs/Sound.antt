@@ -14,7 +14,7 @@ use Rattle.pdu.specs.declared.Transmitter.{Transmitter}
 use Rattle.station.specs.Units.{clockOf, keyOf, blank, fresh, made, unitAt}
 use Rattle.station.specs.Plain.{Sized, HeldAt, Stranger}
 use Rattle.station.specs.Runs.{Call, called, after}
-use Rattle.station.specs.Table.{SameElse, Entered, Table, nothing, entered, again, joined, positioned, ticked}
+use Rattle.station.specs.Table.{SameElse, Table, nothing, entered, again, joined, positioned, ticked}
 use Rattle.station.specs.Claims.{Sound}
 use Rattle.station.specs.declared.Unit.{Unit}
 use Rattle.station.specs.declared.Station.{Station}

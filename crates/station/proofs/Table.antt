@@ -1,7 +1,7 @@
 -- Whatever the call, what it answers and leaves is a row of the table (only-by-rules). The tests of the rules are followed one by one, and each
 -- way ends in its row; what a row says has changed is read off the definitions.
 -- Assumes nothing.
-use Prim.Native.Nat.{ℕ, _-_, _<_, _≤_}
+use Prim.Native.Nat.{ℕ, _-_, _<_}
 use mathlib.Core.Path.{_≡_, refl, sym, ap, _∙_}
 use mathlib.Core.Bool.{Bool, true, false, cond, not, _&&_, _||_, true≢false}
 use mathlib.Core.List.{List, [], _∷_}
@@ -27,7 +27,7 @@ use Rattle.station.specs.Hearing.{messageOf, stateAfter, bothCoarse, aft
 use Rattle.station.specs.Hearing.{step, firstWord, heard}
 use Rattle.station.specs.Clock.{silent, stays, atTime, clocked}
 use Rattle.station.specs.Runs.{Call, datagram, time}
-use Rattle.station.specs.Table.{IsSignal, Passed, SameElse, Entered, Renewed, Joined, Positioned, Ticked, Unchanged, unread, no-room}
+use Rattle.station.specs.Table.{IsSignal, Passed, SameElse, Entered, Renewed, Joined, Positioned, Ticked, unread, no-room}
 use Rattle.station.specs.Table.{stranger, other-net, other-id, not-fine, not-in, passed, back, Table, nothing, entered, again, joined}
 use Rattle.station.specs.Table.{positioned, ticked}
 use Rattle.station.specs.Claims.{OnlyByRules}

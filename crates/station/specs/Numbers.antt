@@ -12,7 +12,7 @@ lastNet = 127
 abbrev pub keyPart : ℕ
 keyPart = 65536
 
--- the ID that matches all (01: "zero ID matches all"), and that a station has first
+-- the ID that matches all (01: "zero ID matches all")
 abbrev pub anyId : ℕ
 anyId = 0
 

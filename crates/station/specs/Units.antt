@@ -6,7 +6,7 @@ use lib.Dec.{eqb, ltb}
 use Rattle.occupancy.specs.Places.{places, held, least, heldCount, withPlace}
 use Rattle.pdu.specs.Numbers.{coarse, fine}
 use Rattle.pdu.specs.declared.Header.{Header}
-use Rattle.station.specs.Numbers.{lastLevel, lastNet, anyId, keyPart}
+use Rattle.station.specs.Numbers.{lastLevel, lastNet, keyPart}
 use Rattle.station.specs.declared.State.{State}
 use Rattle.station.specs.declared.State.the-variants.{Waiting, Coarse, Fine}
 use Rattle.station.specs.declared.Standing.{Standing}
@@ -47,7 +47,7 @@ withClock own t = record { clock = t; standing = own .standing; settings = own .
 -- 01: "an ID (first 0), a state (first Waiting), a clock (first 0)"
 abbrev pub freshOwn : ℕ → ℕ → Own
 freshOwn level net =
-    record { clock = 0; standing = record { id = anyId; state = Waiting }; settings = record { level = level; net = net } }
+    record { clock = 0; standing = record { id = 0; state = Waiting }; settings = record { level = level; net = net } }
 
 -- a number for each state: 01's synchronization states 2 and 3, and 0 for Waiting
 abbrev pub stateNumber : State → ℕ

@@ -306,11 +306,11 @@ pub fn look(station: Station, key: u64) -> Seen
 {
     let mut i = 0;
     while i < occupancy::PLACES {
-        let u = station.units[i];
-        if wire::both(occupancy::is_held(station.used, i), u.key == key) {
+        let entry = station.units[i];
+        if wire::both(occupancy::is_held(station.used, i), entry.key == key) {
             return Seen::Known {
-                inside: u.inside,
-                last: u.last,
+                inside: entry.inside,
+                last: entry.last,
             };
         }
         i += 1;

@@ -1,7 +1,7 @@
 -- The call on a datagram answers and leaves what the rules say. The loop passes only places that are not held with the sender's key and stops
 -- at the first that is, or at 16: that is the key's place. The outcome of its part, put back, is the rules'. The measure is the places left.
 -- Assumes nothing.
-use mathlib.Core.Path.{_≡_, refl, sym, ap, _∙_}
+use mathlib.Core.Path.{_≡_, sym, ap, _∙_}
 use mathlib.Core.Logic.{⊎-elim}
 use mathlib.Core.Bool.{Bool, true, false, _&&_}
 use Prim.Native.Nat.{ℕ, _-_, _≤_, _<_}

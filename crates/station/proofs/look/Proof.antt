@@ -52,11 +52,11 @@ found c here = least-is (holds (S c) (key c)) places (place c) (c .loop .inv .0)
 loop-holds : tie.Need-loop-holds Inv-loop μ-loop
 loop-holds c = (omega arith, below-none _)
 
-mul-u : tie.Need-mul-u Inv-loop μ-loop
-mul-u c = omega arith
+mul-entry : tie.Need-mul-entry Inv-loop μ-loop
+mul-entry c = omega arith
 
-element-copy-out-u : tie.Need-element-copy-out-u Inv-loop μ-loop
-element-copy-out-u c = omega arith
+element-copy-out-entry : tie.Need-element-copy-out-entry Inv-loop μ-loop
+element-copy-out-entry c = omega arith
 
 is-held-requires : tie.Need-is-held-requires Inv-loop μ-loop
 is-held-requires c κs = omega arith
@@ -92,8 +92,8 @@ look-spec =
     Inv-loop
     μ-loop
     loop-holds
-    mul-u
-    element-copy-out-u
+    mul-entry
+    element-copy-out-entry
     is-held-requires
     both-requires
     returns
