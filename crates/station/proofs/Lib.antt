@@ -7,5 +7,7 @@ pub mod Changes
 pub mod RunLaws
 pub mod InNet
 pub mod HeardFirst
+pub mod Maker
+pub mod Shown
 pub mod Sound
 pub mod Example

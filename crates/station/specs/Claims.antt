@@ -6,16 +6,64 @@ use mathlib.Core.List.{List, _∷_}
 use mathlib.Core.Logic.{_⊎_, _↔_}
 use Rattle.occupancy.specs.Places.{held}
 use Rattle.pdu.specs.Reading.{reading}
+use Rattle.pdu.specs.declared.Header.{Header}
 use Rattle.pdu.specs.declared.Transmitter.{Transmitter}
 use Rattle.pdu.specs.declared.Signal.{Signal}
 use Rattle.pdu.specs.declared.Reading.the-variants.{Refused, Transmitter as aTransmitter}
-use Rattle.station.specs.Units.{levelOf, netOf, idOf, stateOf, clockOf, keyOf, unitAt}
+use Rattle.station.specs.Units.{levelOf, netOf, idOf, stateOf, clockOf, keyOf, made, stateNumber, unitAt, seenOf, placeAt}
 use Rattle.station.specs.Plain.{Sized, HeldAt, Sender, Stranger, Clash}
 use Rattle.station.specs.Hearing.{answering, heard}
 use Rattle.station.specs.Runs.{Call, datagram, called, after}
 use Rattle.station.specs.Table.{IsSignal, Passed, SaysJ00, Table}
-use Rattle.station.specs.declared.State.the-variants.{Waiting, Fine}
+use Rattle.station.specs.declared.State.the-variants.{Waiting, Coarse, Fine}
+use Rattle.station.specs.declared.Seen.the-variants.{Unknown, Known}
+use Rattle.station.specs.declared.Place.the-variants.{Free, Held}
 use Rattle.station.specs.declared.Station.{Station}
+
+-- ---- the maker, and keys
+
+-- A station before its first call: ID 0, Waiting, clock 0, and sixteen places of which none is held.
+pub record Fresh (l n : ℕ) (s : Station) : Type 0 where
+  pub level : levelOf s ≡ l
+  pub net : netOf s ≡ n
+  pub id : idOf s ≡ 0
+  pub state : stateOf s ≡ Waiting
+  pub clock : clockOf s ≡ 0
+  pub sized : Sized s
+  pub empty : (i : ℕ) → HeldAt s i → ⊥
+
+-- What the maker answers and gives: 37 and a station of level 0, net 0, or 0 and the station asked for.
+pub data MakerTable (level net : ℕ) : ℕ → Station → Type 0 where
+  refused : {s : Station} → (4 < level) ⊎ (127 < net) → Fresh 0 0 s → MakerTable level net 37 s
+  taken : {s : Station} → level ≤ 4 → net ≤ 127 → Fresh level net s → MakerTable level net 0 s
+
+abbrev pub MadeByRules : ℕ → ℕ → Type 0
+MadeByRules level net = MakerTable level net (made level net .answer) (made level net .station)
+
+-- The four numbers of a key have two bytes each: so it is of every header that a program can hold.
+pub record TwoBytes (h : Header) : Type 0 where
+  pub site : h .site < 65536
+  pub application : h .application < 65536
+  pub entity : h .entity < 65536
+  pub radio : h .radio < 65536
+
+-- Two PDUs have the same key exactly if site, application, entity and radio are the same.
+pub record SameKey (h h′ : Header) : Type 0 where
+  pub same : h .site ≡ h′ .site → h .application ≡ h′ .application → h .entity ≡ h′ .entity → h .radio ≡ h′ .radio → keyOf h ≡ keyOf h′
+  pub site : keyOf h ≡ keyOf h′ → h .site ≡ h′ .site
+  pub application : keyOf h ≡ keyOf h′ → h .application ≡ h′ .application
+  pub entity : keyOf h ≡ keyOf h′ → h .entity ≡ h′ .entity
+  pub radio : keyOf h ≡ keyOf h′ → h .radio ≡ h′ .radio
+
+-- ---- what others see of a station
+
+-- A key is shown with its unit's entry exactly where it is known, and a place with its entry exactly where it is held; each state has its number.
+pub record Shown (s : Station) : Type 0 where
+  pub key-known : (key i : ℕ) → Sender s key i → seenOf s key ≡ Known (unitAt s i .inside) (unitAt s i .last)
+  pub key-unknown : (key : ℕ) → Stranger s key → seenOf s key ≡ Unknown
+  pub place-held : (i : ℕ) → HeldAt s i → placeAt s i ≡ Held (unitAt s i)
+  pub place-free : (i : ℕ) → (HeldAt s i → ⊥) → placeAt s i ≡ Free
+  pub states : (stateNumber Waiting ≡ 0) × (stateNumber Coarse ≡ 2) × (stateNumber Fine ≡ 3)
 
 -- ---- one call
 
