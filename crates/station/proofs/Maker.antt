@@ -1,7 +1,7 @@
 -- The maker's answer and station in plain numbers, by the two tests of its settings; and that a key is its four numbers, by arithmetic.
 -- Assumes nothing.
-use Prim.Native.Nat.{ℕ, _≤_, _<_}
-use mathlib.Core.Path.{_≡_, refl, sym, _∙_}
+use Prim.Native.Nat.{ℕ}
+use mathlib.Core.Path.{_≡_, refl}
 use mathlib.Core.Bool.{Bool, true, false, cond, _||_}
 use mathlib.Core.Logic.{inl, inr}
 use lib.Dec.{ltb}

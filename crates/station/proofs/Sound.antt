@@ -1,7 +1,7 @@
 -- What is true of every station that calls can reach: by the rows of the table, and the laws of lists of calls.
 -- A new entry has a key that no held place had, a clock call frees every silent place, and no other call touches last or frees a place.
 -- Assumes nothing.
-use Prim.Native.Nat.{ℕ, _-_, _^_, _<_, _≤_}
+use Prim.Native.Nat.{ℕ, _^_, _<_}
 use mathlib.Core.Path.{_≡_, refl, sym, ap, _∙_, subst}
 use mathlib.Core.Bool.{true, true≢false}
 use mathlib.Core.List.{List}
@@ -9,13 +9,13 @@ use mathlib.Core.Logic.{⊎-elim}
 use lib.ListN.{length, getD}
 use lib.Pow.{pow-pos}
 use native.Mathlib.Omega.{arith}
-use Rattle.occupancy.specs.Places.{held}
+use Rattle.occupancy.specs.Places.{places, held}
 use Rattle.pdu.specs.declared.Transmitter.{Transmitter}
 use Rattle.station.specs.Units.{clockOf, keyOf, blank, fresh, made, unitAt}
-use Rattle.station.specs.Plain.{Sized, HeldAt, Stranger}
+use Rattle.station.specs.Plain.{Sized, NoneBeyond, HeldAt, Stranger}
 use Rattle.station.specs.Runs.{Call, called, after}
 use Rattle.station.specs.Table.{SameElse, Table, nothing, entered, again, joined, positioned, ticked}
-use Rattle.station.specs.Claims.{Sound}
+use Rattle.station.specs.Claims.{Present, Sound}
 use Rattle.station.specs.declared.Unit.{Unit}
 use Rattle.station.specs.declared.Station.{Station}
 use Rattle.station.proofs.Table.{only-by-rules}
@@ -31,20 +31,12 @@ fresh-sound level net =
     let none = nobody (fresh level net) refl in
     record {
       sized = refl;
-      word = pow-pos 16;
+      word = pow-pos places;
       distinct = λ i j h k e. absurd (none i h);
-      heard = λ i h. absurd (none i h);
-      present = λ i h. absurd (none i h);
-      inside = λ i h w. absurd (none i h);
+      units = λ i h. absurd (none i h);
     }
 
 -- ---- one call
-
--- what is asked of a unit by itself, in a station whose time is now
-record Present (now : ℕ) (u : Unit) : Type 0 where
-  heard : u .last ≤ now
-  present : now - u .last < 60
-  inside : u .inside ≡ true → u .state ≡ 3
 
 -- every unit that is held is present
 abbrev AllPresent : Station → Type 0
@@ -54,19 +46,9 @@ AllPresent s = (i : ℕ) → HeldAt s i → Present (clockOf s) (unitAt s i)
 abbrev Distinct : Station → Type 0
 Distinct s = (i j : ℕ) → HeldAt s i → HeldAt s j → unitAt s i .key ≡ unitAt s j .key → i ≡ j
 
-present-in : {s : Station} → Sound s → AllPresent s
-present-in sound i h = record { heard = sound .heard i h; present = sound .present i h; inside = sound .inside i h }
-
-make-sound : (s : Station) → Sized s → s .used < 2 ^ 16 → Distinct s → AllPresent s → Sound s
-make-sound s sized word distinct all =
-    record {
-      sized = sized;
-      word = word;
-      distinct = distinct;
-      heard = λ i h. all i h .heard;
-      present = λ i h. all i h .present;
-      inside = λ i h. all i h .inside;
-    }
+-- where the word is as it was, so is which places are held
+held-before : (s s′ : Station) → s′ .used ≡ s .used → (i : ℕ) → HeldAt s′ i → HeldAt s i
+held-before s s′ word i h = record { place = h .place; taken = subst (λ (n : ℕ). held n i ≡ true) word (h .taken) }
 
 -- a call that changes the unit in place k alone
 module _ (s s′ : Station) (k : ℕ) (same : SameElse k s s′) (sound : Sound s) where
@@ -81,7 +63,7 @@ module _ (s s′ : Station) (k : ℕ) (same : SameElse k s s′) (sound : Sound 
       (λ (q : i ≡ k). subst (λ (j : ℕ). Present (clockOf s′) (unitAt s′ j)) (sym q) new)
       (λ q.
       subst (λ (u : Unit). Present (clockOf s′) u) (sym (same .entry i q))
-      (subst (λ (t : ℕ). Present t (unitAt s i)) (sym now) (present-in sound i (was-held i q h))))
+      (subst (λ (t : ℕ). Present t (unitAt s i)) (sym now) (sound .units i (was-held i q h))))
       (same-or-not i k)
 
   -- a new entry's key is that of no other place
@@ -113,33 +95,32 @@ module _ (s s′ : Station) (k : ℕ) (same : SameElse k s s′) (sound : Sound 
       → Present (clockOf s′) (unitAt s′ k)
       → Sound s′
   renewed-sound word key now new =
-      let was : (i : ℕ) → HeldAt s′ i → HeldAt s i =
-      (λ i h. record { place = h .place; taken = subst (λ (n : ℕ). held n i ≡ true) word (h .taken) }) in
+      let was = held-before s s′ word in
       let keys = key-kept s s′ k same key in
-      make-sound s′ (same .size ∙ sound .sized) (subst (λ (w : ℕ). w < 2 ^ 16) (sym word) (sound .word))
-      (λ i j h g f. sound .distinct i j (was i h) (was j g) (sym (keys i) ∙ f ∙ keys j))
-      (each-present now new)
+      record {
+        sized = same .size ∙ sound .sized;
+        word = subst (λ (w : ℕ). w < 2 ^ places) (sym word) (sound .word);
+        distinct = λ i j h g f. sound .distinct i j (was i h) (was j g) (sym (keys i) ∙ f ∙ keys j);
+        units = each-present now new;
+      }
 
 -- a call that leaves the entries as they were and takes no place
 same-entries : (s s′ : Station)
     → Sound s
     → s′ .units ≡ s .units
-    → s′ .used < 2 ^ 16
-    → ((i : ℕ) → HeldAt s′ i → HeldAt s i)
-    → clockOf s ≤ clockOf s′
-    → ((i : ℕ) → HeldAt s′ i → clockOf s′ - unitAt s i .last < 60)
+    → NoneBeyond s′
+    → (was : (i : ℕ) → HeldAt s′ i → HeldAt s i)
+    → ((i : ℕ) → HeldAt s′ i → Present (clockOf s′) (unitAt s i))
     → Sound s′
-same-entries s s′ sound entries word was now present =
+same-entries s s′ sound entries word was present =
     let unit : (i : ℕ) → unitAt s′ i ≡ unitAt s i = (λ i. ap (λ (us : List Unit). getD us i blank) entries) in
     let key : (i : ℕ) → unitAt s′ i .key ≡ unitAt s i .key = (λ i. ap (λ (u : Unit). u .key) (unit i)) in
-    make-sound s′ (ap length entries ∙ sound .sized) word
-    (λ i j h g f. sound .distinct i j (was i h) (was j g) (sym (key i) ∙ f ∙ key j))
-    (λ i h.
-    subst (λ (u : Unit). Present (clockOf s′) u) (sym (unit i)) (record {
-      heard = omega (arith, sound .heard i (was i h), now);
-      present = present i h;
-      inside = sound .inside i (was i h);
-    }))
+    record {
+      sized = ap length entries ∙ sound .sized;
+      word = word;
+      distinct = λ i j h g f. sound .distinct i j (was i h) (was j g) (sym (key i) ∙ f ∙ key j);
+      units = λ i h. subst (λ (u : Unit). Present (clockOf s′) u) (sym (unit i)) (present i h);
+    }
 
 keeps : (s : Station) → Sized s → (c : Call) → Sound s → Sound (called s c .station)
 keeps s sized c sound = go (only-by-rules s sized c)
@@ -148,26 +129,29 @@ keeps s sized c sound = go (only-by-rules s sized c)
     go (nothing row) = sound
     go {s′ = s′} (entered t k e x y z) =
         let now = same-clock (z .own) in
-        make-sound s′ (z .others .size ∙ sound .sized) (z .word-fits (sound .word))
-        (new-key s s′ k (z .others) sound t x (z .key))
-        (each-present s s′ k (z .others) sound now (record {
-          heard = omega (arith, z .last, now);
-          present = omega (arith, z .last, now);
-          inside = λ w. absurd (true≢false (sym w ∙ z .outside));
-        }))
+        record {
+          sized = z .others .size ∙ sound .sized;
+          word = z .word-fits (sound .word);
+          distinct = new-key s s′ k (z .others) sound t x (z .key);
+          units =
+              each-present s s′ k (z .others) sound now (record {
+                heard = omega (arith, z .last, now);
+                present = omega (arith, z .last, now);
+                inside = λ w. absurd (true≢false (sym w ∙ z .outside));
+              });
+        }
     go {s′ = s′} (again t k e x y) =
         let now = same-clock (y .own) in
+        let was = sound .units k (x .there) in
         renewed-sound s s′ k (y .others) sound (y .word) (y .key) now (record {
-          heard = omega (arith, y .last, now, sound .heard k (x .there));
-          present = omega (arith, y .last, now, sound .present k (x .there));
+          heard = omega (arith, y .last, now, was .heard);
+          present = omega (arith, y .last, now, was .present);
           inside = λ w. y .state ∙ y .inside .0 w .1;
         })
     go {s′ = s′} (joined g k e x y z u) =
-        let was : (i : ℕ) → HeldAt s′ i → HeldAt s i =
-        (λ i h. record { place = h .place; taken = subst (λ (w : ℕ). held w i ≡ true) (u .word) (h .taken) }) in
-        same-entries s s′ sound (u .entries) (subst (λ (w : ℕ). w < 2 ^ 16) (sym (u .word)) (sound .word)) was
-        (omega (arith, u .clock))
-        (λ i h. omega (arith, sound .present i (was i h), u .clock))
+        let was = held-before s s′ (u .word) in
+        same-entries s s′ sound (u .entries) (subst (λ (w : ℕ). w < 2 ^ places) (sym (u .word)) (sound .word)) was
+        (λ i h. subst (λ (t : ℕ). Present t (unitAt s i)) (sym (u .clock)) (sound .units i (was i h)))
     go {s′ = s′} (positioned g k e x y z u) =
         let now = same-clock (u .own) in
         renewed-sound s s′ k (u .others) sound (u .word) (u .key) now (record {
@@ -176,10 +160,14 @@ keeps s sized c sound = go (only-by-rules s sized c)
           inside = λ w. u .state ∙ z;
         })
     go {s′ = s′} (ticked x y) =
-        same-entries s s′ sound (y .entries) (y .word-fits)
-        (λ i h. record { place = h .place; taken = y .stays i (h .place) .0 (h .taken) .0 })
-        (omega (arith, x, y .clock))
-        (λ i h. omega (arith, y .stays i (h .place) .0 (h .taken) .1, y .clock))
+        let was : (i : ℕ) → HeldAt s′ i → HeldAt s i =
+        (λ i h. record { place = h .place; taken = y .stays i (h .place) .0 (h .taken) .0 }) in
+        same-entries s s′ sound (y .entries) (y .word-fits) was
+        (λ i h. record {
+          heard = omega (arith, sound .units i (was i h) .heard, x, y .clock);
+          present = omega (arith, y .stays i (h .place) .0 (h .taken) .1, y .clock);
+          inside = sound .units i (was i h) .inside;
+        })
 
 -- ---- every list of calls
 

@@ -1,5 +1,5 @@
 -- What the station's theorems claim. Each is proved under its own name in small letters: OnlyByRules by only-by-rules, and so on.
-use Prim.Native.Nat.{ℕ, _-_, _^_, _<_, _≤_}
+use Prim.Native.Nat.{ℕ, _-_, _<_, _≤_}
 use mathlib.Core.Path.{_≡_}
 use mathlib.Core.Bool.{true}
 use mathlib.Core.List.{List, _∷_}
@@ -11,13 +11,14 @@ use Rattle.pdu.specs.declared.Transmitter.{Transmitter}
 use Rattle.pdu.specs.declared.Signal.{Signal}
 use Rattle.pdu.specs.declared.Reading.the-variants.{Refused, Transmitter as aTransmitter}
 use Rattle.station.specs.Units.{levelOf, netOf, idOf, stateOf, clockOf, keyOf, made, stateNumber, unitAt, seenOf, placeAt}
-use Rattle.station.specs.Plain.{Sized, HeldAt, Sender, Stranger, Clash}
+use Rattle.station.specs.Plain.{Sized, NoneBeyond, HeldAt, Sender, Stranger, Clash}
 use Rattle.station.specs.Hearing.{answering, heard}
 use Rattle.station.specs.Runs.{Call, datagram, called, after}
 use Rattle.station.specs.Table.{IsSignal, Passed, SaysJ00, Table}
 use Rattle.station.specs.declared.State.the-variants.{Waiting, Coarse, Fine}
 use Rattle.station.specs.declared.Seen.the-variants.{Unknown, Known}
 use Rattle.station.specs.declared.Place.the-variants.{Free, Held}
+use Rattle.station.specs.declared.Unit.{Unit}
 use Rattle.station.specs.declared.Station.{Station}
 
 -- ---- the maker, and keys
@@ -49,7 +50,11 @@ pub record TwoBytes (h : Header) : Type 0 where
 
 -- Two PDUs have the same key exactly if site, application, entity and radio are the same.
 pub record SameKey (h h′ : Header) : Type 0 where
-  pub same : h .site ≡ h′ .site → h .application ≡ h′ .application → h .entity ≡ h′ .entity → h .radio ≡ h′ .radio → keyOf h ≡ keyOf h′
+  pub same : h .site ≡ h′ .site
+      → h .application ≡ h′ .application
+      → h .entity ≡ h′ .entity
+      → h .radio ≡ h′ .radio
+      → keyOf h ≡ keyOf h′
   pub site : keyOf h ≡ keyOf h′ → h .site ≡ h′ .site
   pub application : keyOf h ≡ keyOf h′ → h .application ≡ h′ .application
   pub entity : keyOf h ≡ keyOf h′ → h .entity ≡ h′ .entity
@@ -158,16 +163,16 @@ pub record Announces (key : ℕ) (s : Station) (c : Call) : Type 0 where
 abbrev pub HeardFirst : Station → List Call → Type 0
 HeardFirst s calls = (i : ℕ) → HeldAt (after s calls) i → Some (Announces (unitAt (after s calls) i .key)) s calls
 
--- What is true of every station that calls can reach. Proved by always-sound.
+-- A unit that is held: it was not last heard after the present second, it has not been silent for 60 seconds, and if it is In it is fine.
+pub record Present (now : ℕ) (u : Unit) : Type 0 where
+  pub heard : u .last ≤ now
+  pub present : now - u .last < 60
+  pub inside : u .inside ≡ true → u .state ≡ 3
+
+-- What is true of every station that calls can reach: there are sixteen places and no place beyond them is held, no two held places have the
+-- same key, and every unit that is held is as above. Proved by always-sound.
 pub record Sound (s : Station) : Type 0 where
-  -- There are sixteen places, and no place beyond them is held.
   pub sized : Sized s
-  pub word : s .used < 2 ^ 16
-  -- No two held places have the same key.
+  pub word : NoneBeyond s
   pub distinct : (i j : ℕ) → HeldAt s i → HeldAt s j → unitAt s i .key ≡ unitAt s j .key → i ≡ j
-  -- No unit was last heard after the present second.
-  pub heard : (i : ℕ) → HeldAt s i → unitAt s i .last ≤ clockOf s
-  -- No unit that is held has been silent for 60 seconds or more.
-  pub present : (i : ℕ) → HeldAt s i → clockOf s - unitAt s i .last < 60
-  -- A unit that is In is fine.
-  pub inside : (i : ℕ) → HeldAt s i → unitAt s i .inside ≡ true → unitAt s i .state ≡ 3
+  pub units : (i : ℕ) → HeldAt s i → Present (clockOf s) (unitAt s i)

@@ -1,6 +1,6 @@
 -- The station's terms in plain words and literal numbers: where a key stands, which place is free, which IDs agree, what a first word says.
 -- They share no test and no named number with the rules that compute; the theorems join the two.
-use Prim.Native.Nat.{ℕ, _<_}
+use Prim.Native.Nat.{ℕ, _^_, _<_}
 use mathlib.Core.Path.{_≡_}
 use mathlib.Core.Bool.{true, false}
 use mathlib.Core.Logic.{_⊎_}
@@ -14,6 +14,10 @@ use Rattle.station.specs.declared.Station.{Station}
 -- There are sixteen places: so it is of every station that a program can hold.
 abbrev pub Sized : Station → Type 0
 Sized s = length (s .units) ≡ 16
+
+-- No place beyond the sixteen is held.
+abbrev pub NoneBeyond : Station → Type 0
+NoneBeyond s = s .used < 2 ^ 16
 
 -- Place i is one of the sixteen and held.
 pub record HeldAt (s : Station) (i : ℕ) : Type 0 where

@@ -1,6 +1,6 @@
 -- The station's rules as one table of cases, in plain terms: for every station and every call, which row applies, what is answered, and
 -- everything that changes. The rows speak of places, keys, nets, IDs, levels and seconds only.
-use Prim.Native.Nat.{ℕ, _-_, _^_, _<_, _≤_}
+use Prim.Native.Nat.{ℕ, _-_, _<_, _≤_}
 use mathlib.Core.Path.{_≡_}
 use mathlib.Core.Bool.{true, false}
 use mathlib.Core.List.{List}
@@ -12,7 +12,7 @@ use Rattle.pdu.specs.declared.Transmitter.{Transmitter}
 use Rattle.pdu.specs.declared.Signal.{Signal}
 use Rattle.pdu.specs.declared.Reading.the-variants.{Refused, Transmitter as aTransmitter, Signal as aSignal}
 use Rattle.station.specs.Units.{levelOf, netOf, idOf, stateOf, clockOf, keyOf, unitAt}
-use Rattle.station.specs.Plain.{Sender, Stranger, LowestFree, Full, Agree, Clash, IsJ00, IsPpli, IsOther}
+use Rattle.station.specs.Plain.{NoneBeyond, Sender, Stranger, LowestFree, Full, Agree, Clash, IsJ00, IsPpli, IsOther}
 use Rattle.station.specs.Hearing.{firstWord}
 use Rattle.station.specs.Runs.{Call, datagram, time}
 use Rattle.station.specs.declared.State.the-variants.{Waiting, Coarse, Fine}
@@ -54,7 +54,7 @@ pub record Entered (s : Station) (i : ℕ) (t : Transmitter) (s′ : Station) : 
   pub own : s′ .own ≡ s .own
   pub others : SameElse i s s′
   pub taken : held (s′ .used) i ≡ true
-  pub word-fits : s .used < 2 ^ 16 → s′ .used < 2 ^ 16
+  pub word-fits : NoneBeyond s → NoneBeyond s′
   pub key : unitAt s′ i .key ≡ keyOf (t .header)
   pub level : unitAt s′ i .level ≡ t .sync .level
   pub state : unitAt s′ i .state ≡ t .sync .state
@@ -107,7 +107,7 @@ pub record Ticked (s : Station) (t : ℕ) (s′ : Station) : Type 0 where
   pub standing : s′ .own .standing ≡ s .own .standing
   pub clock : clockOf s′ ≡ t
   pub entries : s′ .units ≡ s .units
-  pub word-fits : s′ .used < 2 ^ 16
+  pub word-fits : NoneBeyond s′
   pub stays : (i : ℕ) → i < 16 → (held (s′ .used) i ≡ true) ↔ ((held (s .used) i ≡ true) × (t - unitAt s i .last < 60))
 
 -- ---- the table
