@@ -83,7 +83,11 @@ same-signal : {d d′ : List ℕ} {g g′ : Signal} → datagram d ≡ datagram 
 same-signal {d = d} {d′ = d′} {g = g} same (n, p) (n′, q) =
     one-signal (reading d′) n n′ (subst (λ (l : List ℕ). reading l ≡ aSignal g n) (same-bytes same) p) q
 
-no-transmitter : {d d′ : List ℕ} {g : Signal} {t : Transmitter} → datagram d ≡ datagram d′ → IsSignal d g → reading d′ ≡ aTransmitter t → ⊥
+no-transmitter : {d d′ : List ℕ} {g : Signal} {t : Transmitter}
+    → datagram d ≡ datagram d′
+    → IsSignal d g
+    → reading d′ ≡ aTransmitter t
+    → ⊥
 no-transmitter {d = d} {d′ = d′} {g = g} same (n, p) q =
     not-both (reading d′) n (subst (λ (l : List ℕ). reading l ≡ aSignal g n) (same-bytes same) p) q
 
@@ -111,7 +115,12 @@ pub outsiders-change-nothing : (s : Station) → Sized s → (d : List ℕ) → 
 outsiders-change-nothing s sized d g read out = go refl (only-by-rules s sized (datagram d))
   where
     -- a taken J0.0 or PPLI is this Signal, which is an outsider's
-    refuted : {d′ : List ℕ} {g′ : Signal} {i : ℕ} → datagram d′ ≡ datagram d → IsSignal d′ g′ → Passed s g′ i → unitAt s i .state ≡ 3 → ⊥
+    refuted : {d′ : List ℕ} {g′ : Signal} {i : ℕ}
+        → datagram d′ ≡ datagram d
+        → IsSignal d′ g′
+        → Passed s g′ i
+        → unitAt s i .state ≡ 3
+        → ⊥
     refuted {i = i} same e p f = no-outsider s g i (subst (λ (h : Signal). Passed s h i) (same-signal same e read) p) f out
 
     go : {c : Call} {n : ℕ} {s′ : Station} → c ≡ datagram d → Table s c n s′ → s′ ≡ s

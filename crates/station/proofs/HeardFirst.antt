@@ -42,7 +42,11 @@ abbrev Stands : ℕ → ℕ → Station → Type 0
 Stands i key s = HeldAt s i × (unitAt s i .key ≡ key)
 
 -- where the word and the keys are as they were, whoever stands in a place stood there
-stood : (s s′ : Station) (i key : ℕ) → s′ .used ≡ s .used → unitAt s′ i .key ≡ unitAt s i .key → Stands i key s′ → Stands i key s
+stood : (s s′ : Station) (i key : ℕ)
+    → s′ .used ≡ s .used
+    → unitAt s′ i .key ≡ unitAt s i .key
+    → Stands i key s′
+    → Stands i key s
 stood s s′ i key word keys w =
     (record { place = w .0 .place; taken = subst (λ (n : ℕ). held n i ≡ true) word (w .0 .taken) }, sym keys ∙ w .1)
 
@@ -50,7 +54,11 @@ stood s s′ i key word keys w =
 same-key : (s s′ : Station) (i : ℕ) → s′ .units ≡ s .units → unitAt s′ i .key ≡ unitAt s i .key
 same-key s s′ i e = ap (λ (us : List Unit). getD us i blank .key) e
 
-announced : (i key : ℕ) (s : Station) → Sized s → (c : Call) → Stands i key (called s c .station) → Stands i key s ⊎ Announces key s c
+announced : (i key : ℕ) (s : Station)
+    → Sized s
+    → (c : Call)
+    → Stands i key (called s c .station)
+    → Stands i key s ⊎ Announces key s c
 announced i key s sized c = go (only-by-rules s sized c)
   where
     go : {c : Call} {n : ℕ} {s′ : Station} → Table s c n s′ → Stands i key s′ → Stands i key s ⊎ Announces key s c

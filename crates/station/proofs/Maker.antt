@@ -34,7 +34,10 @@ made-by-rules level net = go (ltb lastLevel level) (ltb lastNet net) refl refl
     given : Bool → Made
     given b = cond b (record { station = fresh 0 0; answer = 37 }) (record { station = fresh level net; answer = 0 })
 
-    go : (a b : Bool) → ltb lastLevel level ≡ a → ltb lastNet net ≡ b → MakerTable level net (given (a || b) .answer) (given (a || b) .station)
+    go : (a b : Bool)
+        → ltb lastLevel level ≡ a
+        → ltb lastNet net ≡ b
+        → MakerTable level net (given (a || b) .answer) (given (a || b) .station)
     go true b x y = refused (inl (ltb-true _ _ x)) (is-fresh 0 0)
     go false true x y = refused (inr (ltb-true _ _ y)) (is-fresh 0 0)
     go false false x y = taken (ltb-false _ _ x) (ltb-false _ _ y) (is-fresh level net)

@@ -84,7 +84,12 @@ module _ (own sender : ℕ) where
   unfolding otherId
   clash e = go (eqb own sender) (eqb own 0) (eqb sender 0) refl refl refl e
     where
-      go : (a b c : Bool) → eqb own sender ≡ a → eqb own 0 ≡ b → eqb sender 0 ≡ c → (not (b || c) && not a) ≡ true → Clash own sender
+      go : (a b c : Bool)
+          → eqb own sender ≡ a
+          → eqb own 0 ≡ b
+          → eqb sender 0 ≡ c
+          → (not (b || c) && not a) ≡ true
+          → Clash own sender
       go true true c x y z f = absurd (true≢false (sym f))
       go true false true x y z f = absurd (true≢false (sym f))
       go true false false x y z f = absurd (true≢false (sym f))
@@ -96,7 +101,12 @@ module _ (own sender : ℕ) where
   unfolding otherId
   agree e = go (eqb own sender) (eqb own 0) (eqb sender 0) refl refl refl e
     where
-      go : (a b c : Bool) → eqb own sender ≡ a → eqb own 0 ≡ b → eqb sender 0 ≡ c → (not (b || c) && not a) ≡ false → Agree own sender
+      go : (a b c : Bool)
+          → eqb own sender ≡ a
+          → eqb own 0 ≡ b
+          → eqb sender 0 ≡ c
+          → (not (b || c) && not a) ≡ false
+          → Agree own sender
       go true b c x y z f = inl (eqb-true _ _ x)
       go false true c x y z f = inr (inl (eqb-true _ _ y))
       go false false true x y z f = inr (inr (eqb-true _ _ z))

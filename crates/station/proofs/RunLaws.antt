@@ -19,7 +19,10 @@ use Rattle.station.specs.declared.Made.{Made}
 use Rattle.station.proofs.Table.{only-by-rules}
 
 -- what holds of every fresh station holds of every station that the maker gives
-pub of-made : (Q : Station → Type 0) → ((level net : ℕ) → Q (fresh level net)) → (level net : ℕ) → Q (made level net .station)
+pub of-made : (Q : Station → Type 0)
+    → ((level net : ℕ) → Q (fresh level net))
+    → (level net : ℕ)
+    → Q (made level net .station)
 unfolding made
 of-made Q f level net = go (ltb lastLevel level || ltb lastNet net)
   where

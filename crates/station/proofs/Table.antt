@@ -115,7 +115,10 @@ kept-inside was state id old = (
   λ w. rw (w .0, eq-eqb _ _ (w .1), eq-eqb _ _ (w .2)),
 )
 
-renewed-row : (s : Station) (i : ℕ) (t : Transmitter) → Sized s → i < places → Renewed s i t (withUnit s i (renewed (unitAt s i) t))
+renewed-row : (s : Station) (i : ℕ) (t : Transmitter)
+    → Sized s
+    → i < places
+    → Renewed s i t (withUnit s i (renewed (unitAt s i) t))
 renewed-row s i t sized l =
     let old = unitAt s i in
     let u = renewed old t in

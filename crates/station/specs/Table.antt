@@ -123,7 +123,10 @@ pub data Unchanged (s : Station) : Call → ℕ → Type 0 where
       → Full s
       → Unchanged s (datagram d) 30
   -- a Signal with an unknown key: 31
-  stranger : {d : List ℕ} (g : Signal) → IsSignal d g → Stranger s (keyOf (g .header)) → Unchanged s (datagram d) 31
+  stranger : {d : List ℕ} (g : Signal)
+      → IsSignal d g
+      → Stranger s (keyOf (g .header))
+      → Unchanged s (datagram d) 31
   -- a Signal on another net: 32
   other-net : {d : List ℕ} (g : Signal) (i : ℕ)
       → IsSignal d g
