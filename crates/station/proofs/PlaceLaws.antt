@@ -8,7 +8,7 @@ use mathlib.Core.Logic.{inl, inr}
 use lib.Dec.{eqb, ltb}
 use borrow.Author.Tests.{eqb-true, eqb-false, eq-eqb, ltb-true, ltb-false}
 use native.Mathlib.Omega.{arith}
-use Rattle.wire.proofs.TableLaws.{both-true}
+use Rattle.station.proofs.ReaderLaws.{both-true}
 use Rattle.occupancy.specs.Places.{places, held, freePlace}
 use Rattle.occupancy.proofs.LeastLaws.{least-is, least-below, least-here}
 use Rattle.occupancy.proofs.WordLaws.{lowest-is-free, below-is-held}

@@ -1,4 +1,4 @@
--- What the station needs to know of reading, and of tests as reading has them: all that these proofs cite of pdu's laws goes through here.
+-- What the station needs to know of reading and of tests: all that these proofs cite of pdu's and wire's laws goes through here.
 -- The law proved here: the reader's number is never 42, so a refusal is never taken for a J0.0. No rule of reading has that number, whatever
 -- the datagram, and the first rule that is broken is one of them.
 -- Assumes nothing.
@@ -10,12 +10,12 @@ use lib.Dec.{eqb}
 use borrow.Author.Tests.{eqb-false, not-true}
 use Rattle.wire.specs.Bytes.{num}
 use Rattle.wire.specs.First.{Refusal, _given-when_, first}
-use Rattle.wire.proofs.TableLaws.{both-true}
 use Rattle.pdu.specs.Numbers.{transmitterType}
 use Rattle.pdu.specs.Reading.{networkRules, bodyRules, transmitterRules, signalRules, readingRules, refusal, reading, numberOf}
 use Rattle.pdu.specs.declared.Reading.the-variants.{Refused}
 use Rattle.pdu.proofs.TakenExactly.{refusal-read}
--- a test of two numbers, opened; and where a taken Signal's body stands
+-- two tests joined, and a test of two numbers, opened; and where a taken Signal's body stands
+pub use Rattle.wire.proofs.TableLaws.{both-true}
 pub use Rattle.pdu.proofs.ReadingLaws.{differs, agrees}
 pub use Rattle.pdu.proofs.Carried.{body-there}
 

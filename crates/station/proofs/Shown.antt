@@ -5,7 +5,7 @@ use mathlib.Core.Path.{_≡_, refl}
 use mathlib.Core.Bool.{Bool, true, false, _&&_}
 use lib.Dec.{ltb}
 use borrow.Author.Tests.{lt-ltb, ltb-true}
-use Rattle.wire.proofs.TableLaws.{both-true}
+use Rattle.station.proofs.ReaderLaws.{both-true}
 use Rattle.occupancy.specs.Places.{places, held}
 use Rattle.station.specs.Units.{placeOf, known, seenOf, placeAt}
 use Rattle.station.specs.Plain.{HeldAt, Stranger}

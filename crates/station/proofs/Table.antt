@@ -12,7 +12,7 @@ use lib.Dec.{eqb, ltb}
 use borrow.Author.Tests.{eqb-true, eqb-false, eq-eqb, ne-eqb, ltb-true, ltb-false, leb-false, lt-leb, not-true, not-false}
 use native.Mathlib.Omega.{arith}
 use Rattle.wire.specs.First.{Refusal, _given-when_}
-use Rattle.wire.proofs.TableLaws.{both-true}
+use Rattle.station.proofs.ReaderLaws.{both-true}
 use Rattle.occupancy.specs.Places.{places, held, freePlace}
 use Rattle.occupancy.proofs.WordLaws.{held-taken, taken-fits, built-fits, held-built}
 use Rattle.pdu.specs.Reading.{reading}
