@@ -3,17 +3,24 @@ use crate::datagrams;
 use crate::lines;
 use trunk::Arrival;
 use trunk::Far;
+use trunk::Load;
 use trunk::Near;
 use trunk::Offer;
 use trunk::Reply;
 use trunk::Sent;
 use trunk::far_end;
+use trunk::kinds;
 use trunk::near_end;
 
-// The kind of a record with a Transmitter; those below it have a Signal of so many words.
-const TRANSMITTER: u64 = 16;
-
 const UNIT: u16 = 1;
+
+// The store's length, and a reply's.
+const STORE: usize = 1536;
+
+const REPLY: usize = 5;
+
+// Room for any record, and so for any datagram that the trunk carries.
+const ROOM: usize = kinds::LONGEST_RECORD;
 
 // Both ends, and a sum of what the calls answered.
 struct Ends {
@@ -23,14 +30,11 @@ struct Ends {
 }
 
 fn fresh() -> Ends {
-    let made = station::new(0, 0);
-    let station = made.station;
+    let made = far_end::new(0, 0);
+    let far = made.far;
     Ends {
-        near: Near {
-            accepted: 0,
-            acknowledged: 0,
-        },
-        far: Far { count: 0, station },
+        near: near_end::new(),
+        far,
         sum: 0,
     }
 }
@@ -49,24 +53,31 @@ struct Launched {
     size: usize,
 }
 
+// Sends a number's record.
+fn send(near: Near, number: u32, store: &[u8; STORE], record: &mut [u8; ROOM]) -> Launched {
+    let sending = near_end::send(near, store, number, record);
+    let near = sending.near;
+    let answer = sending.answer;
+    match answer {
+        Sent::Refused(_) => Launched { near, size: 0 },
+        Sent::Size(size) => Launched { near, size },
+    }
+}
+
 // Offers a datagram and sends its record.
-fn launch(near: Near, datagram: &[u8], store: &mut [u8; 1536], record: &mut [u8; 192]) -> Launched {
+fn launch(
+    near: Near,
+    datagram: &[u8],
+    store: &mut [u8; STORE],
+    record: &mut [u8; ROOM],
+) -> Launched {
     let offered = near_end::offer(near, store, datagram);
-    let after = offered.near;
-    let offer = offered.answer;
-    let Offer::Taken(number) = offer else {
-        return Launched {
-            near: after,
-            size: 0,
-        };
-    };
-    let Sent::Size(size) = near_end::send(after, store, number, record) else {
-        return Launched {
-            near: after,
-            size: 0,
-        };
-    };
-    Launched { near: after, size }
+    let near = offered.near;
+    let answer = offered.answer;
+    match answer {
+        Offer::Refused(_) => Launched { near, size: 0 },
+        Offer::Taken(number) => send(near, number, store, record),
+    }
 }
 
 // The near end after a reply, and the sum.
@@ -76,7 +87,7 @@ struct Landed {
 }
 
 // Takes the reply to a PDU that was put out.
-fn land(near: Near, sum: u64, arrival: Arrival, reply: &[u8; 5], out: &[u8; 192]) -> Landed {
+fn land(near: Near, sum: u64, arrival: Arrival, reply: &[u8; REPLY], out: &[u8; ROOM]) -> Landed {
     let Arrival::Delivered { size, answer } = arrival else {
         return Landed { near, sum };
     };
@@ -93,74 +104,98 @@ fn land(near: Near, sum: u64, arrival: Arrival, reply: &[u8; 5], out: &[u8; 192]
     }
 }
 
+// One cycle of a datagram.
+fn cycle(
+    ends: Ends,
+    datagram: &[u8],
+    store: &mut [u8; STORE],
+    record: &mut [u8; ROOM],
+    out: &mut [u8; ROOM],
+    reply: &mut [u8; REPLY],
+) -> Ends {
+    let near = ends.near;
+    let far = ends.far;
+    let launched = launch(near, datagram, store, record);
+    let near = launched.near;
+    let arrived = far_end::arrive(far, lines::first(record, launched.size), reply, out);
+    let far = arrived.far;
+    let arrival = arrived.answer;
+    let landed = land(near, ends.sum, arrival, reply, out);
+    let near = landed.near;
+    Ends {
+        near,
+        far,
+        sum: landed.sum,
+    }
+}
+
 // So many cycles of one datagram.
 fn cycles(
     start: Ends,
     datagram: &[u8],
     times: u64,
-    store: &mut [u8; 1536],
-    record: &mut [u8; 192],
-    out: &mut [u8; 192],
-    reply: &mut [u8; 5],
+    store: &mut [u8; STORE],
+    record: &mut [u8; ROOM],
+    out: &mut [u8; ROOM],
+    reply: &mut [u8; REPLY],
 ) -> Ends {
-    let mut near = start.near;
-    let mut far = start.far;
-    let mut sum = start.sum;
+    let mut ends = start;
     let mut left = times;
     while left > 0 {
         left -= 1;
-        let launched = launch(near, datagram, store, record);
-        let sent = lines::first(record, launched.size);
-        let arrived = far_end::arrive(far, sent, reply, out);
-        far = arrived.far;
-        let between = launched.near;
-        let arrival = arrived.answer;
-        let landed = land(between, sum, arrival, reply, out);
-        near = landed.near;
-        sum = landed.sum;
+        ends = cycle(ends, datagram, store, record, out, reply);
     }
-    Ends { near, far, sum }
+    ends
 }
 
 // The kind's datagram in `out`: its size, or 0 where no PDU has this kind.
 fn put_datagram(kind: u64, out: &mut [u8]) -> usize {
-    if kind == TRANSMITTER {
-        return datagrams::put_transmitter(UNIT, out);
+    if kind > u8::MAX as u64 {
+        return 0;
     }
-    datagrams::put_ppli(UNIT, kind, out)
+    match kinds::load(kind as u8) {
+        Load::Words(n) => datagrams::put_ppli(UNIT, n as usize, out),
+        Load::Transmitter => datagrams::put_transmitter(UNIT, out),
+        Load::Nothing => 0,
+        Load::Unknown => 0,
+    }
 }
 
-// `cycle KIND TIMES`: one cycle of a Transmitter, so that the far station knows the unit, then as many as are asked for.
-pub fn run(kind: u64, times: u64) -> bool {
-    let mut first = [0u8; 192];
-    let mut datagram = [0u8; 192];
-    let m = datagrams::put_transmitter(UNIT, &mut first);
-    let n = put_datagram(kind, &mut datagram);
-    if n == 0 {
-        return false;
-    }
-    let mut store = [0u8; 1536];
-    let mut record = [0u8; 192];
-    let mut out = [0u8; 192];
-    let mut reply = [0u8; 5];
-    let ends = cycles(
+// One cycle of the first datagram, then so many of the second, from fresh ends.
+fn cycles_of(first: &[u8], second: &[u8], times: u64) -> Ends {
+    let mut store = [0u8; STORE];
+    let mut record = [0u8; ROOM];
+    let mut out = [0u8; ROOM];
+    let mut reply = [0u8; REPLY];
+    let ends = cycle(
         fresh(),
-        lines::first(&first, m),
-        1,
+        first,
         &mut store,
         &mut record,
         &mut out,
         &mut reply,
     );
-    let ends = cycles(
+    cycles(
         ends,
-        lines::first(&datagram, n),
+        second,
         times,
         &mut store,
         &mut record,
         &mut out,
         &mut reply,
-    );
+    )
+}
+
+// `cycle KIND TIMES`: one cycle of a Transmitter, so that the far station knows the unit, then as many as are asked for.
+pub fn run(kind: u64, times: u64) -> bool {
+    let mut first = [0u8; ROOM];
+    let mut second = [0u8; ROOM];
+    let m = datagrams::put_transmitter(UNIT, &mut first);
+    let n = put_datagram(kind, &mut second);
+    if n == 0 {
+        return false;
+    }
+    let ends = cycles_of(lines::first(&first, m), lines::first(&second, n), times);
     show(kind, times, ends);
     true
 }
@@ -170,9 +205,9 @@ fn show(kind: u64, times: u64, ends: Ends) {
     let near = ends.near;
     let far = ends.far;
     lines::show_job(b"cycle", kind, times);
-    lines::show_field(near.accepted as u64);
-    lines::show_field(near.acknowledged as u64);
-    lines::show_field(far.count as u64);
+    lines::show_field(near_end::accepted(near) as u64);
+    lines::show_field(near_end::acknowledged(near) as u64);
+    lines::show_field(far_end::count(far) as u64);
     lines::show_field(ends.sum);
     lines::end_line();
 }

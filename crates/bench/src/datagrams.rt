@@ -10,10 +10,11 @@ use pdu::Sync;
 use pdu::Transmitter;
 use pdu::Written;
 
-const MOST_WORDS: u64 = 12;
+// The longest type 0 body.
+const BODY: usize = pdu::BODY_HEADER + pdu::MOST_WORDS * pdu::WORD_BYTES;
 
 // A PPLI's label where it stands: in the last byte of the body's first word, above two bits of format.
-const LABEL_PLACE: usize = 15;
+const LABEL_PLACE: usize = pdu::BODY_HEADER + pdu::WORD_BYTES - 1;
 
 const PPLI_LABEL: u8 = 8;
 
@@ -110,12 +111,12 @@ pub fn put_transmitter(unit: u16, out: &mut [u8]) -> usize {
 }
 
 // Writes a Signal of so many words, the first of them a PPLI's: its size.
-pub fn put_ppli(unit: u16, words: u64, out: &mut [u8]) -> usize {
-    if MOST_WORDS < words {
+pub fn put_ppli(unit: u16, words: usize, out: &mut [u8]) -> usize {
+    if pdu::MOST_WORDS < words {
         return 0;
     }
-    let mut body = [0u8; 126];
+    let mut body = [0u8; BODY];
     body[LABEL_PLACE] = PPLI_LABEL;
-    let n = 6 + 10 * words as usize;
+    let n = pdu::BODY_HEADER + pdu::WORD_BYTES * words;
     size(pdu::write_signal(signal(unit), lines::first(&body, n), out))
 }

@@ -1,5 +1,6 @@
 // The lines that are read and printed.
 ghost use Prim.Native.Nat.{_≤_};
+use libc::STDERR_FILENO;
 use libc::STDOUT_FILENO;
 
 // A line's first word.
@@ -133,8 +134,11 @@ pub fn show_job(word: &[u8], size: u64, times: u64) {
     show_field(times);
 }
 
+// A write that fails is told on standard error.
 pub fn end_line() {
-    show(b"\n");
+    if !io::write_all(STDOUT_FILENO, b"\n") {
+        io::write_all(STDERR_FILENO, b"standard output: a write failed\n");
+    }
 }
 
 // `bad line N`

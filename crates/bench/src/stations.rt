@@ -13,7 +13,7 @@ struct Tally {
 
 // The station after the Transmitter of a unit.
 fn joined(station: Station, unit: u16) -> Station {
-    let mut datagram = [0u8; 192];
+    let mut datagram = [0u8; pdu::TRANSMITTER_SIZE];
     let n = datagrams::put_transmitter(unit, &mut datagram);
     let heard = station::hear(station, lines::first(&datagram, n));
     heard.station
@@ -51,7 +51,7 @@ pub fn run(units: u64, times: u64) -> bool {
         return false;
     }
     let unit = units as u16;
-    let mut datagram = [0u8; 192];
+    let mut datagram = [0u8; pdu::TRANSMITTER_SIZE];
     let n = datagrams::put_ppli(unit, 1, &mut datagram);
     show(
         units,

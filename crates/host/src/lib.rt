@@ -4,6 +4,9 @@ ghost use Rattle.pdu.specs.Reading.{reading, numberOf, sizeOf};
 ghost use Rattle.trunk.specs.Record.{checked, numberOfChecked, sizeOfChecked};
 ghost use Rattle.host.specs.Answer.{packed};
 
+// The number stands above the size, which has 32 bits.
+const ABOVE: u64 = 4294967296;
+
 // The answer number and size for a datagram; a null pointer with length 0 is an empty slice.
 #[no_mangle]
 pub extern "C" fn altuvrin_datagram(bytes: &[u8]) -> u64
@@ -11,7 +14,7 @@ pub extern "C" fn altuvrin_datagram(bytes: &[u8]) -> u64
 {
     let n = pdu::reading_refusal(bytes);
     if n != 0 {
-        return n as u64 * 4294967296;
+        return n as u64 * ABOVE;
     }
     bytes.len() as u64
 }
@@ -22,5 +25,5 @@ pub extern "C" fn altuvrin_record(bytes: &[u8]) -> u64
     ensures { λ r. ⌜ r ≡ packed (numberOfChecked (checked (now (bytes .entry)))) (sizeOfChecked (checked (now (bytes .entry)))) ⌝ }
 {
     let answer = trunk::records::check(bytes);
-    trunk::records::number(answer) as u64 * 4294967296 + trunk::records::size(answer) as u64
+    trunk::records::number(answer) as u64 * ABOVE + trunk::records::size(answer) as u64
 }

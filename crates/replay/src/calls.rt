@@ -1,377 +1,174 @@
-// One line of a script: a call, made and shown.
+// The calls of a script, made and shown.
+use crate::answers;
+use crate::script;
 use crate::show;
 use crate::text;
-use text::Number;
-use trunk::Arrival;
+use script::Call;
+use text::ROOM;
 use trunk::Far;
 use trunk::Near;
-use trunk::Offer;
-use trunk::Reply;
-use trunk::Sent;
 use trunk::far_end;
 use trunk::near_end;
 
-// The longest lent buffer, and the highest number and clock.
-const ROOM: u64 = 4096;
+// The store's right length.
+const STORE: usize = 1536;
 
-const LAST_NUMBER: u64 = 4294967295;
-
-const LAST_CLOCK: u64 = 18446744073709551615;
-
-// Both ends, the store's length, and how many lines came before.
-pub struct State {
+// The near end, and the store that is lent to it: its bytes, of which the first `size` are lent.
+pub struct Side {
     pub near: Near,
+    pub store: [u8; ROOM],
+    pub size: usize,
+}
+
+// Both ends, how many lines came before, and whether all of them could be read.
+pub struct State {
+    pub side: Side,
     pub far: Far,
-    pub store: usize,
     pub lines: u64,
-}
-
-// The state after a line, and whether the line could be read.
-pub struct Next {
-    pub state: State,
     pub good: bool,
-}
-
-// A line that cannot be read changes nothing.
-fn bad(state: State) -> Next {
-    Next { state, good: false }
-}
-
-// The state with another near end.
-fn with_near(state: State, near: Near) -> Next {
-    let far = state.far;
-    Next {
-        state: State {
-            near,
-            far,
-            store: state.store,
-            lines: state.lines,
-        },
-        good: true,
-    }
-}
-
-// The state with another far end.
-fn with_far(state: State, far: Far) -> Next {
-    let near = state.near;
-    Next {
-        state: State {
-            near,
-            far,
-            store: state.store,
-            lines: state.lines,
-        },
-        good: true,
-    }
 }
 
 // The state before any line: fresh ends, the far station of level 0, net 0.
 pub fn start() -> State {
-    let made = station::new(0, 0);
-    let station = made.station;
+    let made = far_end::new(0, 0);
+    let far = made.far;
+    let side = Side {
+        near: near_end::new(),
+        store: [0u8; ROOM],
+        size: STORE,
+    };
     State {
-        near: Near {
-            accepted: 0,
-            acknowledged: 0,
-        },
-        far: Far { count: 0, station },
-        store: 1536,
+        side,
+        far,
         lines: 0,
-    }
-}
-
-// A word and a number, as a line.
-fn show_line(word: &[u8], n: u64) {
-    show::text(word);
-    show::number(n);
-    show::text(b"\n");
-}
-
-// `station LEVEL NET`: makes the far end's station.
-fn make_station(state: State, words: &[u8]) -> Next {
-    let Number::Is(level) = text::decimal(text::first_word(words), 255) else {
-        return bad(state);
-    };
-    let Number::Is(net) = text::decimal(text::other_words(words), 255) else {
-        return bad(state);
-    };
-    if 255 < level {
-        return bad(state);
-    }
-    if 255 < net {
-        return bad(state);
-    }
-    let made = station::new(level as u8, net as u8);
-    show_line(b"station ", made.answer as u64);
-    let station = made.station;
-    with_far(state, Far { count: 0, station })
-}
-
-// `store BYTES`: the lent store's length.
-fn make_store(state: State, words: &[u8]) -> Next {
-    let Number::Is(size) = text::decimal(words, ROOM) else {
-        return bad(state);
-    };
-    show_line(b"store ", size);
-    let near = state.near;
-    let far = state.far;
-    Next {
-        state: State {
-            near,
-            far,
-            store: size as usize,
-            lines: state.lines,
-        },
         good: true,
     }
 }
 
-// `offer HEX`.
-fn offer(state: State, words: &[u8], store: &mut [u8], given: &mut [u8]) -> Next {
-    let Number::Is(n) = text::bytes(words, given) else {
-        return bad(state);
-    };
-    let n = n as usize;
-    let size = state.store;
-    if given.len() < n {
-        return bad(state);
-    }
-    if store.len() < size {
-        return bad(state);
-    }
-    let near = state.near;
-    let offered = near_end::offer(near, &mut store[..size], &given[..n]);
+fn make_station(level: u8, net: u8) -> Far {
+    let made = far_end::new(level, net);
+    show::line(b"station", made.answer as u64);
+    made.far
+}
+
+fn make_store(side: Side, size: usize) -> Side {
+    show::line(b"store", size as u64);
+    let mut after = side;
+    after.size = size;
+    after
+}
+
+fn offer(side: Side, datagram: &[u8]) -> Side {
+    let near = side.near;
+    let mut store = side.store;
+    let size = side.size;
+    let offered = near_end::offer(near, text::first_mut(&mut store, size), datagram);
     let answer = offered.answer;
-    match answer {
-        Offer::Refused(number) => show::refused(b"offer", number),
-        Offer::Taken(number) => show_line(b"offer ", number as u64),
-    }
-    let after = offered.near;
-    with_near(state, after)
+    answers::offered(answer);
+    let near = offered.near;
+    Side { near, store, size }
 }
 
-// Shows the bytes at a buffer's start, up to `n`.
-fn show_bytes(buf: &[u8], n: usize) {
-    show::text(b" ");
-    if n <= buf.len() {
-        show::hex(&buf[..n]);
-    }
+fn send(near: Near, store: &[u8], number: u32, room: usize) -> Near {
+    let mut out = [0u8; ROOM];
+    let sending = near_end::send(near, store, number, text::first_mut(&mut out, room));
+    let answer = sending.answer;
+    answers::sent(answer, &out);
+    sending.near
 }
 
-// `send NUMBER ROOM`.
-fn send(state: State, words: &[u8], store: &[u8], out: &mut [u8]) -> Next {
-    let Number::Is(i) = text::decimal(text::first_word(words), LAST_NUMBER) else {
-        return bad(state);
-    };
-    let Number::Is(room) = text::decimal(text::other_words(words), ROOM) else {
-        return bad(state);
-    };
-    let room = room as usize;
-    let size = state.store;
-    if LAST_NUMBER < i {
-        return bad(state);
-    }
-    if out.len() < room {
-        return bad(state);
-    }
-    if store.len() < size {
-        return bad(state);
-    }
-    let near = state.near;
-    let answer = near_end::send(near, &store[..size], i as u32, &mut out[..room]);
-    match answer {
-        Sent::Refused(number) => show::refused(b"send", number),
-        Sent::Size(n) => {
-            show::text(b"send ");
-            show::number(n as u64);
-            show_bytes(out, n);
-            show::text(b"\n");
-        }
-    }
-    Next { state, good: true }
+fn send_from(side: Side, number: u32, room: usize) -> Side {
+    let near = side.near;
+    let store = side.store;
+    let size = side.size;
+    let near = send(near, text::first(&store, size), number, room);
+    Side { near, store, size }
 }
 
-// `near HEX`: a record arrives at the near end.
-fn to_near(state: State, words: &[u8], given: &mut [u8]) -> Next {
-    let Number::Is(n) = text::bytes(words, given) else {
-        return bad(state);
-    };
-    let n = n as usize;
-    if given.len() < n {
-        return bad(state);
-    }
-    let near = state.near;
-    let replied = near_end::take_reply(near, &given[..n]);
+fn to_near(side: Side, received: &[u8]) -> Side {
+    let near = side.near;
+    let replied = near_end::take_reply(near, received);
     let answer = replied.answer;
-    match answer {
-        Reply::Refused(number) => show::refused(b"near", number),
-        Reply::Acknowledged(count) => show_line(b"near ", count as u64),
-    }
-    let after = replied.near;
-    with_near(state, after)
+    answers::replied(answer);
+    let near = replied.near;
+    let mut after = side;
+    after.near = near;
+    after
 }
 
-// Shows what an arrival gave.
-fn show_arrival(answer: Arrival, out: &[u8], reply: &[u8]) {
-    match answer {
-        Arrival::Refused(number) => show::refused(b"far", number),
-        Arrival::Delivered { size, answer } => {
-            show::text(b"far delivered ");
-            show::number(size as u64);
-            show::text(b" ");
-            show::number(answer as u64);
-            show_bytes(out, size);
-            show_bytes(reply, 5);
-            show::text(b"\n");
-        }
-        Arrival::Repeat => {
-            show::text(b"far repeat");
-            show_bytes(reply, 5);
-            show::text(b"\n");
-        }
-        Arrival::Early => {
-            show::text(b"far early");
-            show_bytes(reply, 5);
-            show::text(b"\n");
-        }
-    }
-}
-
-// A record of `n` bytes arrives at the far end, with these rooms.
-fn arrive(
-    state: State,
-    given: &[u8],
-    room: usize,
-    reply_room: usize,
-    out: &mut [u8],
-    reply: &mut [u8],
-) -> Next {
-    if out.len() < room {
-        return bad(state);
-    }
-    if reply.len() < reply_room {
-        return bad(state);
-    }
-    let far = state.far;
-    let arrived = far_end::arrive(far, given, &mut reply[..reply_room], &mut out[..room]);
+fn to_far(far: Far, received: &[u8], room: usize, reply_room: usize) -> Far {
+    let mut out = [0u8; ROOM];
+    let mut reply = [0u8; ROOM];
+    let arrived = far_end::arrive(
+        far,
+        received,
+        text::first_mut(&mut reply, reply_room),
+        text::first_mut(&mut out, room),
+    );
     let answer = arrived.answer;
-    show_arrival(answer, out, reply);
-    let after = arrived.far;
-    with_far(state, after)
+    answers::arrived(answer, &out, &reply);
+    arrived.far
 }
 
-// `far HEX ROOM REPLYROOM`: a record arrives at the far end.
-fn to_far(state: State, words: &[u8], given: &mut [u8], out: &mut [u8], reply: &mut [u8]) -> Next {
-    let Number::Is(n) = text::bytes(text::first_word(words), given) else {
-        return bad(state);
-    };
-    let rooms = text::other_words(words);
-    let Number::Is(room) = text::decimal(text::first_word(rooms), ROOM) else {
-        return bad(state);
-    };
-    let Number::Is(reply_room) = text::decimal(text::other_words(rooms), ROOM) else {
-        return bad(state);
-    };
-    let n = n as usize;
-    if given.len() < n {
-        return bad(state);
-    }
-    arrive(
-        state,
-        &given[..n],
-        room as usize,
-        reply_room as usize,
-        out,
-        reply,
-    )
-}
-
-// `clock T`: the far end's clock.
-fn clock(state: State, words: &[u8]) -> Next {
-    let Number::Is(t) = text::decimal(words, LAST_CLOCK) else {
-        return bad(state);
-    };
-    let far = state.far;
+fn clock(far: Far, t: u64) -> Far {
     let ticked = far_end::tick(far, t);
-    show_line(b"clock ", ticked.answer as u64);
-    let after = ticked.far;
-    with_far(state, after)
+    show::line(b"clock", ticked.answer as u64);
+    ticked.far
 }
 
-// A call behind the first lines.
-fn run_call(
-    state: State,
-    line: &[u8],
-    store: &mut [u8],
-    given: &mut [u8],
-    out: &mut [u8],
-    reply: &mut [u8],
-) -> Next {
-    let word = text::first_word(line);
-    let words = text::other_words(line);
-    if check::same(word, b"offer") {
-        return offer(state, words, store, given);
+// The near end and its store after a call.
+fn run_near(side: Side, call: Call, given: &[u8; ROOM]) -> Side {
+    match call {
+        Call::Store(size) => make_store(side, size),
+        Call::Offer(n) => offer(side, text::first(given, n)),
+        Call::Send { number, room } => send_from(side, number, room),
+        Call::Near(n) => to_near(side, text::first(given, n)),
+        _ => side,
     }
-    if check::same(word, b"send") {
-        return send(state, words, store, out);
-    }
-    if check::same(word, b"near") {
-        return to_near(state, words, given);
-    }
-    if check::same(word, b"far") {
-        return to_far(state, words, given, out, reply);
-    }
-    if check::same(word, b"clock") {
-        return clock(state, words);
-    }
-    bad(state)
 }
 
-// Counts a line that was run.
-fn counted(next: Next) -> Next {
-    let state = next.state;
-    if !next.good {
-        return bad(state);
+// The far end after a call.
+fn run_far(far: Far, call: Call, given: &[u8; ROOM]) -> Far {
+    match call {
+        Call::Station { level, net } => make_station(level, net),
+        Call::Far {
+            size,
+            room,
+            reply_room,
+        } => to_far(far, text::first(given, size), room, reply_room),
+        Call::Clock(t) => clock(far, t),
+        _ => far,
     }
-    let near = state.near;
+}
+
+// One line more.
+fn counted(lines: u64) -> u64 {
+    if lines < u64::MAX { lines + 1 } else { lines }
+}
+
+// Makes a call that may stand here. A line that cannot be read changes nothing.
+fn run(state: State, call: Call, given: &[u8; ROOM]) -> State {
+    let side = state.side;
     let far = state.far;
-    let lines = state.lines;
-    if lines == u64::MAX {
-        return bad(state);
+    if script::in_place(call, state.lines) {
+        return State {
+            side: run_near(side, call, given),
+            far: run_far(far, call, given),
+            lines: counted(state.lines),
+            good: true,
+        };
     }
-    Next {
-        state: State {
-            near,
-            far,
-            store: state.store,
-            lines: lines + 1,
-        },
-        good: true,
+    State {
+        side,
+        far,
+        lines: state.lines,
+        good: false,
     }
 }
 
-// Runs one line: `station` first, `store` perhaps second, then calls. Buffers are lent as zeros.
-pub fn run_line(
-    state: State,
-    line: &[u8],
-    store: &mut [u8],
-    given: &mut [u8],
-    out: &mut [u8],
-    reply: &mut [u8],
-) -> Next {
-    let word = text::first_word(line);
-    if state.lines == 0 {
-        if check::same(word, b"station") {
-            return counted(make_station(state, text::other_words(line)));
-        }
-        return bad(state);
-    }
-    if state.lines == 1 {
-        if check::same(word, b"store") {
-            return counted(make_store(state, text::other_words(line)));
-        }
-    }
-    show::clear(out);
-    show::clear(reply);
-    counted(run_call(state, line, store, given, out, reply))
+// Runs one line. Buffers are lent as zeros.
+pub fn run_line(state: State, line: &[u8]) -> State {
+    let mut given = [0u8; ROOM];
+    let call = script::read(line, &mut given);
+    run(state, call, &given)
 }

@@ -1,5 +1,7 @@
 // Replays a list of calls on both ends of the trunk, one a line from standard input, and prints what each call gave and how both ends stand.
+mod answers;
 mod calls;
+mod script;
 mod show;
 mod text;
 mod units;
@@ -7,69 +9,83 @@ mod units;
 use calls::State;
 use libc::STDIN_FILENO;
 
-// How far the lines of a text were run: the bytes used, and whether all could be read.
+// A line of this length or more cannot be read.
+const INPUT: usize = 65536;
+
+// How far the lines of a text were run: the bytes used.
 struct Progress {
-    used: usize,
-    good: bool,
     state: State,
+    used: usize,
 }
 
-// Runs every whole line of a text.
-fn run_lines(
-    state: State,
-    input: &[u8],
-    store: &mut [u8],
-    given: &mut [u8],
-    out: &mut [u8],
-    reply: &mut [u8],
-) -> Progress {
+// Runs every whole line of a text, up to one that cannot be read.
+fn run_lines(state: State, input: &[u8]) -> Progress {
     let mut now = state;
     let mut at = 0;
-    while at < input.len() {
-        let rest = &input[at..];
-        let n = text::find(rest, b'\n');
-        if rest.len() <= n {
+    while now.good {
+        let end = text::find(input, at, b'\n');
+        if input.len() <= end {
             break;
         }
-        let next = calls::run_line(now, &rest[..n], store, given, out, reply);
-        now = next.state;
-        at += n + 1;
-        if !next.good {
-            return Progress {
-                used: at,
-                good: false,
-                state: now,
-            };
-        }
+        now = calls::run_line(now, text::part(input, at, end));
+        at = end + 1;
     }
     Progress {
-        used: at,
-        good: true,
         state: now,
+        used: at,
     }
 }
 
-// What one read brought.
-enum Came {
-    Bytes(usize),
-    Failed,
+// What one read brought: so many bytes, none at the input's end, or a failure.
+struct Came {
+    bytes: usize,
+    failed: bool,
 }
 
-// One read into the part of `input` from `have` on.
+// One read into the start of a part.
+fn read_into(part: &mut [u8]) -> Came {
+    let got = libc::read(STDIN_FILENO, part);
+    if got < 0 {
+        os::fail(b"standard input");
+    }
+    Came {
+        bytes: io::count(got, part),
+        failed: got < 0,
+    }
+}
+
+// One read behind the bytes held.
 fn read_more(input: &mut [u8], have: usize) -> Came {
-    if have <= input.len() {
-        let part = &mut input[have..];
-        let got = libc::read(STDIN_FILENO, part);
-        if got < 0 {
-            return Came::Failed;
-        }
-        return Came::Bytes(io::count(got, part));
+    if have < input.len() {
+        return read_into(&mut input[have..]);
     }
-    Came::Bytes(0)
+    Came {
+        bytes: 0,
+        failed: false,
+    }
+}
+
+// The bytes held after a read.
+fn held_after(have: usize, n: usize) -> usize {
+    if have < INPUT {
+        if n <= INPUT - have {
+            return have + n;
+        }
+    }
+    INPUT
+}
+
+// Moves byte i behind `used` to place i.
+fn move_down(input: &mut [u8; INPUT], used: usize, i: usize) {
+    if i < INPUT {
+        if used < INPUT - i {
+            input[i] = input[used + i];
+        }
+    }
 }
 
 // Moves the bytes from `used` up to `have` to the start: how many there are.
-fn keep(input: &mut [u8], used: usize, have: usize) -> usize {
+fn keep(input: &mut [u8; INPUT], used: usize, have: usize) -> usize {
     if have <= used {
         return 0;
     }
@@ -82,55 +98,12 @@ fn keep(input: &mut [u8], used: usize, have: usize) -> usize {
     n
 }
 
-// Moves byte i behind `used` to place i.
-fn move_down(input: &mut [u8], used: usize, i: usize) {
-    if i < input.len() {
-        if used < input.len() - i {
-            input[i] = input[used + i];
-        }
-    }
-}
-
-// `bad line N`, where so many lines came before.
-fn show_bad_line(before: u64) {
-    show::text(b"bad line ");
-    if before < u64::MAX {
-        show::number(before + 1);
-    }
-    show::text(b"\n");
-}
-
-// The last lines, where any line was run.
-fn show_end(state: State) {
-    if state.lines == 0 {
-        return;
-    }
-    let near = state.near;
-    let far = state.far;
-    let station = far.station;
-    units::show_counts(near, far.count);
-    units::show_station(station);
-    units::show_places(station);
-}
-
-// Runs the last line, which lacks its end, and shows how both ends stand.
-fn finish(
-    state: State,
-    line: &[u8],
-    store: &mut [u8],
-    given: &mut [u8],
-    out: &mut [u8],
-    reply: &mut [u8],
-) {
+// Runs the last line, which lacks its end.
+fn run_last(state: State, line: &[u8]) -> State {
     if line.len() == 0 {
-        return show_end(state);
+        return state;
     }
-    let next = calls::run_line(state, line, store, given, out, reply);
-    let after = next.state;
-    if next.good {
-        return show_end(after);
-    }
-    show_bad_line(after.lines);
+    calls::run_line(state, line)
 }
 
 // Where a turn of the run leaves it: the ends, the bytes held back, and whether to go on.
@@ -148,75 +121,54 @@ fn stop(state: State) -> Held {
     }
 }
 
-// Runs the whole lines among the bytes held, and holds back the rest.
-fn feed(
-    state: State,
-    have: usize,
-    input: &mut [u8],
-    store: &mut [u8],
-    given: &mut [u8],
-    out: &mut [u8],
-    reply: &mut [u8],
-) -> Held {
-    if input.len() < have {
-        return stop(state);
-    }
-    let progress = run_lines(state, &input[..have], store, given, out, reply);
+// Runs the whole lines among the bytes held, and holds back the rest, which must leave room for more.
+fn feed(state: State, have: usize, input: &mut [u8; INPUT]) -> Held {
+    let progress = run_lines(state, text::first(input, have));
     let after = progress.state;
-    if !progress.good {
-        show_bad_line(after.lines);
-        return stop(after);
+    let left = keep(input, progress.used, have);
+    if wire::both(after.good, left < INPUT) {
+        return Held {
+            state: after,
+            have: left,
+            go: true,
+        };
     }
-    Held {
-        state: after,
-        have: keep(input, progress.used, have),
-        go: true,
-    }
+    units::show_bad_line(after.lines);
+    stop(after)
 }
 
-// One read, and what follows from it. A line longer than the input buffer cannot be read.
-fn turn(
-    state: State,
-    have: usize,
-    input: &mut [u8],
-    store: &mut [u8],
-    given: &mut [u8],
-    out: &mut [u8],
-    reply: &mut [u8],
-) -> Held {
-    if input.len() <= have {
-        show_bad_line(state.lines);
+// The end of the input: the last line, and how the run ended.
+fn end(state: State, line: &[u8]) -> Held {
+    units::show_end(run_last(state, line));
+    stop(state)
+}
+
+// One read, and what follows from it.
+fn turn(held: Held, input: &mut [u8; INPUT]) -> Held {
+    let state = held.state;
+    let have = held.have;
+    let came = read_more(input, have);
+    if came.failed {
         return stop(state);
     }
-    match read_more(input, have) {
-        Came::Failed => {
-            os::fail(b"standard input");
-            return stop(state);
-        }
-        Came::Bytes(n) => {
-            if input.len() - have < n {
-                return stop(state);
-            }
-            if n == 0 {
-                finish(state, &input[..have], store, given, out, reply);
-                return stop(state);
-            }
-            feed(state, have + n, input, store, given, out, reply)
-        }
+    if came.bytes == 0 {
+        return end(state, text::first(input, have));
     }
+    feed(state, held_after(have, came.bytes), input)
 }
 
 // Runs the whole input. A proved loop has to end: it counts its turns down from more than any input takes.
-fn run_all(input: &mut [u8], store: &mut [u8], given: &mut [u8], out: &mut [u8], reply: &mut [u8]) {
-    let mut state = calls::start();
-    let mut have = 0;
+fn run_all(input: &mut [u8; INPUT]) {
+    let mut held = Held {
+        state: calls::start(),
+        have: 0,
+        go: true,
+    };
     let mut turns = u64::MAX;
     while turns > 0 {
         turns -= 1;
-        let next = turn(state, have, input, store, given, out, reply);
-        state = next.state;
-        have = next.have;
-        if !next.go {
+        held = turn(held, input);
+        if !held.go {
             return;
         }
     }
@@ -224,9 +176,5 @@ fn run_all(input: &mut [u8], store: &mut [u8], given: &mut [u8], out: &mut [u8],
 
 fn main() {
     let mut input = io::large_buffer();
-    let mut store = io::buffer();
-    let mut given = io::buffer();
-    let mut out = io::buffer();
-    let mut reply = io::buffer();
-    run_all(&mut input, &mut store, &mut given, &mut out, &mut reply);
+    run_all(&mut input);
 }

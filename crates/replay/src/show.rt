@@ -1,12 +1,44 @@
 // What the program prints.
+use crate::text;
 use libc::STDOUT_FILENO;
+use text::ROOM;
+
+// Room for the digits of a lent buffer.
+const SPELLED: usize = 2 * ROOM;
 
 pub fn text(bytes: &[u8]) {
     io::write_all(STDOUT_FILENO, bytes);
 }
 
-pub fn number(n: u64) {
+// A write that fails is told on standard error.
+pub fn end_line() {
+    if !io::write_all(STDOUT_FILENO, b"\n") {
+        os::fail(b"standard output");
+    }
+}
+
+// ` N`
+pub fn field(n: u64) {
+    text(b" ");
     io::print_decimal(STDOUT_FILENO, n);
+}
+
+// The same, and the line's end.
+pub fn last(n: u64) {
+    field(n);
+    end_line();
+}
+
+// A word and a number, as a line.
+pub fn line(word: &[u8], n: u64) {
+    text(word);
+    last(n);
+}
+
+// A call's word and its refusal.
+pub fn refused(call: &[u8], n: u8) {
+    text(call);
+    line(b" refused", n as u64);
 }
 
 // A hexadecimal digit's character.
@@ -20,45 +52,40 @@ fn digit(n: u8) -> u8 {
     b'?'
 }
 
-// Bytes in lower-case hexadecimal.
-pub fn hex(bytes: &[u8]) {
-    let mut line = [0u8; 8192];
-    let n = spell(bytes, &mut line);
-    if n <= 8192 {
-        io::write_all(STDOUT_FILENO, &line[..n]);
-    }
-}
-
-// Writes the digits of as many bytes as there is room for: how many characters.
-fn spell(bytes: &[u8], out: &mut [u8]) -> usize {
-    let mut i = 0;
-    while i < bytes.len() {
-        if out.len() / 2 <= i {
-            return 2 * i;
-        }
-        let byte = bytes[i];
+// Writes the two digits of byte i.
+fn put_digits(out: &mut [u8; SPELLED], i: usize, byte: u8) {
+    if i < ROOM {
         out[2 * i] = digit(byte / 16);
         out[2 * i + 1] = digit(byte % 16);
-        i += 1;
     }
-    2 * i
 }
 
-// A call's word and its refusal.
-pub fn refused(call: &[u8], n: u8) {
-    text(call);
-    text(b" refused ");
-    number(n as u64);
-    text(b"\n");
+// Writes the digits of all bytes.
+fn spell(bytes: &[u8], out: &mut [u8; SPELLED]) {
+    let mut i = 0;
+    while i < bytes.len() {
+        put_digits(out, i, bytes[i]);
+        i += 1;
+    }
+}
+
+// A space, and the digits of `n` bytes.
+fn digits(spelled: &[u8; SPELLED], n: usize) {
+    text(b" ");
+    if n <= ROOM {
+        text(text::first(spelled, 2 * n));
+    }
+}
+
+// A space, and the first `n` bytes of a lent buffer in lower-case hexadecimal.
+pub fn bytes(buf: &[u8; ROOM], n: usize) {
+    let mut spelled = [0u8; SPELLED];
+    spell(text::first(buf, n), &mut spelled);
+    digits(&spelled, n);
 }
 
 // A key in sixteen hexadecimal digits.
 pub fn key(n: u64) {
+    text(b" ");
     io::print_hex(STDOUT_FILENO, n, 16);
-}
-
-// Sets every byte to zero.
-pub fn clear(buf: &mut [u8]) {
-    let n = buf.len();
-    wire::zero(buf, 0, n);
 }

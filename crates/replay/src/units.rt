@@ -1,25 +1,24 @@
 // How both ends stand, as the last lines say it.
+use crate::calls;
 use crate::show;
+use calls::State as Run;
 use station::Place;
 use station::State;
 use station::Station;
 use station::Unit;
 use trunk::Far;
 use trunk::Near;
+use trunk::far_end;
+use trunk::near_end;
 
-// ` N`
-fn field(n: u64) {
-    show::text(b" ");
-    show::number(n);
-}
+const PLACES: usize = 16;
 
 // `counts ACCEPTED ACKNOWLEDGED DELIVERED`
-pub fn show_counts(near: Near, count: u32) {
+fn show_counts(near: Near, far: Far) {
     show::text(b"counts");
-    field(near.accepted as u64);
-    field(near.acknowledged as u64);
-    field(count as u64);
-    show::text(b"\n");
+    show::field(near_end::accepted(near) as u64);
+    show::field(near_end::acknowledged(near) as u64);
+    show::last(far_end::count(far) as u64);
 }
 
 // A state's word.
@@ -32,14 +31,13 @@ fn show_state_word(state: State) {
 }
 
 // `state LEVEL NET ID STATE CLOCK`
-pub fn show_station(s: Station) {
+fn show_station(s: Station) {
     show::text(b"state");
-    field(station::level_of(s) as u64);
-    field(station::net_of(s) as u64);
-    field(station::id_of(s) as u64);
+    show::field(station::level_of(s) as u64);
+    show::field(station::net_of(s) as u64);
+    show::field(station::id_of(s) as u64);
     show_state_word(station::state_of(s));
-    field(station::clock_of(s));
-    show::text(b"\n");
+    show::last(station::clock_of(s));
 }
 
 // 1 for true and 0 for false.
@@ -50,15 +48,13 @@ fn flag(b: bool) -> u64 {
 // `unit PLACE KEYHEX LEVEL SYNC ID IN LAST`
 fn show_unit(place: usize, u: Unit) {
     show::text(b"unit");
-    field(place as u64);
-    show::text(b" ");
+    show::field(place as u64);
     show::key(u.key);
-    field(u.level as u64);
-    field(u.state as u64);
-    field(u.id as u64);
-    field(flag(u.inside));
-    field(u.last);
-    show::text(b"\n");
+    show::field(u.level as u64);
+    show::field(u.state as u64);
+    show::field(u.id as u64);
+    show::field(flag(u.inside));
+    show::last(u.last);
 }
 
 // The line of a place, where it is held.
@@ -70,10 +66,38 @@ fn show_place(s: Station, place: usize) {
 }
 
 // The lines of all places.
-pub fn show_places(s: Station) {
+fn show_places(s: Station) {
     let mut i = 0;
-    while i < 16 {
+    while i < PLACES {
         show_place(s, i);
         i += 1;
+    }
+}
+
+// `bad line N`, where so many lines came before.
+pub fn show_bad_line(before: u64) {
+    if before < u64::MAX {
+        show::line(b"bad line", before + 1);
+    }
+}
+
+// The last lines, where any line was run.
+fn show_ends(near: Near, far: Far) {
+    let station = far_end::station(far);
+    show_counts(near, far);
+    show_station(station);
+    show_places(station);
+}
+
+// How the run ended: the last lines, or the line that could not be read.
+pub fn show_end(run: Run) {
+    let side = run.side;
+    let near = side.near;
+    let far = run.far;
+    if !run.good {
+        return show_bad_line(run.lines);
+    }
+    if 0 < run.lines {
+        show_ends(near, far);
     }
 }

@@ -14,34 +14,15 @@ use native.Mathlib.Omega.{arith}
 use borrow.Author.Tests.{ltb-true, ltb-false}
 use Rattle.station.specs.Units.{made}
 use Rattle.station.specs.declared.Station.{Station}
-use Rattle.trunk.specs.Kinds.{headSize}
+use Rattle.trunk.specs.Head.{headSize}
+use Rattle.trunk.specs.Kinds.{longestPdu}
 use Rattle.trunk.specs.Near.{rows}
-use Rattle.trunk.specs.Far.{leastOutput}
-use Rattle.trunk.specs.Line.{Entry, offer-made, send-made, reply-heard, record-heard, clock-set, Call, Line, start, step, run, accepted, putOut, putOutBy, Fair}
+use Rattle.trunk.specs.Line.{Entry, offer-made, send-made, reply-heard, record-heard, clock-set, Call, Line, start, step, run, accepted}
+use Rattle.trunk.specs.Line.{putOut, putOutBy, Fair}
 use Rattle.trunk.specs.Demand.{count, handover, Demand3}
+use Rattle.trunk.specs.Retries.{alternating, Delivers}
 use Rattle.trunk.specs.declared.Arrival.the-variants.{Refused as arrivalRefused, Delivered, Repeat, Early}
 use Rattle.trunk.proofs.Demand3.{demand3}
-
--- record k and its reply in turn, at most n times, as long as k is below accepted
-unfoldable pub alternating : ℕ → Line → List ℕ → List ℕ → List Call
-alternating zero l reply out = []
-alternating (suc n) l reply out =
-    cond (ltb (count (l .log)) (length (accepted (l .log))))
-    (handover l reply out ++ alternating n (run l (handover l reply out)) reply out)
-    []
-
--- what such calls bring a line to
-pub record Delivers (l : Line) (calls : List Call) : Type 0 where
-  -- they go on with a fair list
-  pub fair : Fair l calls
-  -- nothing more is accepted
-  pub same : accepted (run l calls .log) ≡ accepted (l .log)
-  -- everything accepted is put out
-  pub all-put-out : putOut (run l calls .log) ≡ accepted (l .log)
-  -- and all of it is acknowledged, if something was still to be put out, or no reply was missing
-  pub all-acknowledged :
-      (count (l .log) < length (accepted (l .log))) ⊎ (l .near .acknowledged ≡ count (l .log))
-      → run l calls .near .acknowledged ≡ length (accepted (l .log))
 
 -- demand 3 holds after every fair list of further calls
 Always : Station → Line → Type 0
@@ -68,7 +49,7 @@ one-more : (log : List Entry) → count log ≤ count (drop 1 log) + 1
 one-more [] = omega arith
 one-more (e ∷ log) = let longer = length-append (putOut log) (putOutBy e) in omega (arith, longer, one-put-out e)
 
-module _ (station : Station) (reply out : List ℕ) (fits : headSize ≤ length reply) (room : leastOutput ≤ length out) where
+module _ (station : Station) (reply out : List ℕ) (fits : headSize ≤ length reply) (room : longestPdu ≤ length out) where
   -- where k is no longer below accepted
   at-rest : (l : Line) → Demand3 station l → length (accepted (l .log)) ≤ count (l .log) → Delivers l []
   at-rest l d none =
@@ -114,7 +95,11 @@ module _ (station : Station) (reply out : List ℕ) (fits : headSize ≤ length 
       l′ : Line
       l′ = run l (handover l reply out)
 
-      by : (Always station l′ → length (accepted (l′ .log)) ≤ count (l′ .log) + n → Delivers l′ (alternating n l′ reply out)) → (b : Bool) → ltb (count (l .log)) (length (accepted (l .log))) ≡ b → Delivers l (cond b (handover l reply out ++ alternating n l′ reply out) [])
+      by :
+          (Always station l′ → length (accepted (l′ .log)) ≤ count (l′ .log) + n → Delivers l′ (alternating n l′ reply out))
+          → (b : Bool)
+          → ltb (count (l .log)) (length (accepted (l .log))) ≡ b
+          → Delivers l (cond b (handover l reply out ++ alternating n l′ reply out) [])
       by rest true e =
           let t = turned l always (ltb-true _ _ e) in
           let still = ap length (t .same) in
@@ -128,11 +113,17 @@ module _ (station : Station) (reply out : List ℕ) (fits : headSize ≤ length 
       by rest false e = at-rest l (always [] tt) (ltb-false _ _ e)
 
 -- From every line that a fair list reached, with lent buffers of any content that have room, eight turns at most put out everything accepted.
-pub alternating-delivers : (level net : ℕ) (store : List ℕ) (calls : List Call) → Fair (start (made level net .station) store) calls → (reply out : List ℕ) → headSize ≤ length reply → leastOutput ≤ length out → Delivers (run (start (made level net .station) store) calls) (alternating rows (run (start (made level net .station) store) calls) reply out)
+pub alternating-delivers :
+    (level net : ℕ) (store : List ℕ) (calls : List Call)
+    → Fair (start level net store) calls
+    → (reply out : List ℕ)
+    → headSize ≤ length reply
+    → longestPdu ≤ length out
+    → Delivers (run (start level net store) calls) (alternating rows (run (start level net store) calls) reply out)
 unfolding Always
 alternating-delivers level net store calls fair reply out fits room =
     let station : Station = made level net .station in
     let d = demand3 level net store calls fair in
-    delivers station reply out fits room rows (run (start station store) calls)
-    (always-after station (start station store) calls fair (demand3 level net store))
+    delivers station reply out fits room rows (run (start level net store) calls)
+    (always-after station (start level net store) calls fair (demand3 level net store))
     (omega (arith, d .window, d .acknowledged-put-out))

@@ -11,20 +11,22 @@ use lib.ListN.{length, drop}
 use lib.Dec.{eqb, ltb}
 use native.Mathlib.Omega.{arith}
 use borrow.Author.Tests.{eqb-true, eqb-false, ltb-true, ltb-false}
-use Rattle.wire.specs.Bytes.{Bytes, splice}
+use Rattle.wire.specs.Bytes.{Bytes}
 use Rattle.wire.specs.First.{first}
 use Rattle.pdu.specs.Plain.{Met, FirstBroken}
 use Rattle.pdu.proofs.RuleLaws.{Verdict}
-use Rattle.trunk.specs.Kinds.{headSize, recordSize}
+use Rattle.trunk.specs.Head.{headSize}
+use Rattle.trunk.specs.Kinds.{recordSize}
 use Rattle.trunk.specs.Record.{replyOf, numberIn, carriedIn}
-use Rattle.trunk.specs.Near.{rowStart, rowKind, rowRecord, offerRules, offerRecord, offered, storeAfter, sendRules, sent, sentOut, replyRules, acknowledgedAfter, replied}
+use Rattle.trunk.specs.Near.{rowKind, rowRecord, oneAccepted, stored, offerRules, offered, storeAfter, sendRules, sent, sentOut}
+use Rattle.trunk.specs.Near.{replyRules, acknowledgedAfter, acknowledging, replied}
 use Rattle.trunk.specs.Far.{arrivalRules, isNext, countAfter, delivered, arrived, replyAfter, outputAfter}
 use Rattle.trunk.specs.Plain.{plainOffer, plainSend, plainReply, plainArrival}
 use Rattle.trunk.specs.declared.Near.{Near}
 use Rattle.trunk.specs.declared.Far.{Far}
 use Rattle.trunk.specs.declared.Offer.the-variants.{Refused as offerRefused, Taken}
 use Rattle.trunk.specs.declared.Offered.{Offered}
-use Rattle.trunk.specs.declared.Sent.{Sent}
+use Rattle.trunk.specs.declared.Sending.{Sending}
 use Rattle.trunk.specs.declared.Sent.the-variants.{Refused as sendRefused, Size}
 use Rattle.trunk.specs.declared.Reply.the-variants.{Refused as replyRefused, Acknowledged}
 use Rattle.trunk.specs.declared.Replied.{Replied}
@@ -40,9 +42,7 @@ pub data OfferOutcome (near : Near) (store d : List ℕ) : Offered → List ℕ 
       → FirstBroken n (plainOffer near store d)
       → OfferOutcome near store d (record { near = near; answer = offerRefused n }) store
   offer-taken : Met (plainOffer near store d)
-      → OfferOutcome near store d
-      (record { near = record { accepted = near .accepted + 1; acknowledged = near .acknowledged }; answer = Taken (near .accepted) })
-      (splice (rowStart (near .accepted)) (offerRecord near d) store)
+      → OfferOutcome near store d (record { near = oneAccepted near; answer = Taken (near .accepted) }) (stored near store d)
 
 pub offer-outcome : (near : Near) (store d : List ℕ) → OfferOutcome near store d (offered near store d) (storeAfter near store d)
 unfolding offered storeAfter
@@ -58,23 +58,28 @@ offer-outcome near store d = by (eqb (first (offerRules near store d)) 0) refl
 -- ---- sending
 
 -- a send's answer, and the lent buffer after it
-pub data SendOutcome (near : Near) (store : List ℕ) (i : ℕ) (out : List ℕ) : Sent → List ℕ → Type 0 where
+pub data SendOutcome (near : Near) (store : List ℕ) (i : ℕ) (out : List ℕ) : Sending → List ℕ → Type 0 where
   send-refused : (n : ℕ)
       → FirstBroken n (plainSend near store i (length out))
-      → SendOutcome near store i out (sendRefused n) out
+      → SendOutcome near store i out (record { near = near; answer = sendRefused n }) out
   send-taken : Met (plainSend near store i (length out))
       → SendOutcome near store i out
-      (Size (recordSize (rowKind store i)))
+      (record { near = near; answer = Size (recordSize (rowKind store i)) })
       (rowRecord store i ++ drop (recordSize (rowKind store i)) out)
 
-pub send-outcome : (near : Near) (store : List ℕ) (i : ℕ) (out : List ℕ) → SendOutcome near store i out (sent near store i (length out)) (sentOut near store i out)
+pub send-outcome :
+    (near : Near) (store : List ℕ) (i : ℕ) (out : List ℕ)
+    → SendOutcome near store i out (sent near store i (length out)) (sentOut near store i out)
 unfolding sent sentOut
 send-outcome near store i out = by (eqb (first (sendRules near store i (length out))) 0) refl
   where
     v : Verdict (sendRules near store i (length out)) (plainSend near store i (length out))
     v = send-verdict near store i (length out)
 
-    by : (b : Bool) → eqb (first (sendRules near store i (length out))) 0 ≡ b → SendOutcome near store i out (sent near store i (length out)) (sentOut near store i out)
+    by :
+        (b : Bool)
+        → eqb (first (sendRules near store i (length out))) 0 ≡ b
+        → SendOutcome near store i out (sent near store i (length out)) (sentOut near store i out)
     by true e = rw e (send-taken (v .none .0 (eqb-true _ _ e)))
     by false e = rw e (send-refused _ (v .some _ .0 (refl, eqb-false _ _ e)))
 
@@ -98,7 +103,7 @@ pub data ReplyOutcome (near : Near) (r : List ℕ) : Replied → Type 0 where
   reply-taken : Met (plainReply near r)
       → ReplyOutcome near r
       (record {
-        near = record { accepted = near .accepted; acknowledged = acknowledgedAfter (near .acknowledged) (numberIn r) };
+        near = acknowledging near (numberIn r);
         answer = Acknowledged (acknowledgedAfter (near .acknowledged) (numberIn r));
       })
 
@@ -151,7 +156,13 @@ pub data ArrivalOutcome (far : Far) (r reply out : List ℕ) : Arrived → List 
       → far .count < numberIn r
       → ArrivalOutcome far r reply out (record { far = far; answer = Early }) (replyOf (far .count) ++ drop headSize reply) out
 
-pub arrival-outcome : (far : Far) (r reply out : List ℕ) → Bytes r → ArrivalOutcome far r reply out (arrived far r (length reply) (length out)) (replyAfter far r reply (length out)) (outputAfter far r (length reply) out)
+pub arrival-outcome :
+    (far : Far) (r reply out : List ℕ)
+    → Bytes r
+    → ArrivalOutcome far r reply out
+    (arrived far r (length reply) (length out))
+    (replyAfter far r reply (length out))
+    (outputAfter far r (length reply) out)
 unfolding arrived replyAfter outputAfter
 arrival-outcome far r reply out b = by (eqb (first (arrivalRules r (length reply) (length out))) 0) refl
   where
@@ -159,9 +170,18 @@ arrival-outcome far r reply out b = by (eqb (first (arrivalRules r (length reply
     v = arrival-verdict r b (length reply) (length out)
 
     Outcome : Type 0
-    Outcome = ArrivalOutcome far r reply out (arrived far r (length reply) (length out)) (replyAfter far r reply (length out)) (outputAfter far r (length reply) out)
+    Outcome =
+        ArrivalOutcome far r reply out
+        (arrived far r (length reply) (length out))
+        (replyAfter far r reply (length out))
+        (outputAfter far r (length reply) out)
 
-    placed-by : (next below : Bool) → isNext (far .count) (numberIn r) ≡ next → ltb (numberIn r) (far .count) ≡ below → eqb (first (arrivalRules r (length reply) (length out))) 0 ≡ true → Outcome
+    placed-by :
+        (next below : Bool)
+        → isNext (far .count) (numberIn r) ≡ next
+        → ltb (numberIn r) (far .count) ≡ below
+        → eqb (first (arrivalRules r (length reply) (length out))) 0 ≡ true
+        → Outcome
     placed-by true below s t e =
         rw (e, count-next (far .count) (numberIn r) s, s)
         (arrival-delivered (v .none .0 (eqb-true _ _ e)) (next-number (far .count) (numberIn r) s))
@@ -178,10 +198,17 @@ arrival-outcome far r reply out b = by (eqb (first (arrivalRules r (length reply
 
 -- ---- calls that break no rule
 
-pub sends : (near : Near) (store : List ℕ) (i : ℕ) (out : List ℕ) → first (sendRules near store i (length out)) ≡ 0 → (sent near store i (length out) ≡ Size (recordSize (rowKind store i))) × (sentOut near store i out ≡ rowRecord store i ++ drop (recordSize (rowKind store i)) out)
+pub sends :
+    (near : Near) (store : List ℕ) (i : ℕ) (out : List ℕ)
+    → first (sendRules near store i (length out)) ≡ 0
+    → (sent near store i (length out) .answer ≡ Size (recordSize (rowKind store i)))
+    × (sentOut near store i out ≡ rowRecord store i ++ drop (recordSize (rowKind store i)) out)
 unfolding sent sentOut
 sends near store i out e = (rw e, rw e)
 
-pub acknowledges : (near : Near) (r : List ℕ) → first (replyRules near r) ≡ 0 → replied near r .near .acknowledged ≡ acknowledgedAfter (near .acknowledged) (numberIn r)
+pub acknowledges :
+    (near : Near) (r : List ℕ)
+    → first (replyRules near r) ≡ 0
+    → replied near r .near .acknowledged ≡ acknowledgedAfter (near .acknowledged) (numberIn r)
 unfolding replied
 acknowledges near r e = rw e

@@ -4,28 +4,23 @@
 use Prim.Native.Nat.{ℕ, _<_}
 use mathlib.Core.Path.{_≡_, refl, ap, ap₂, subst, _∙_}
 use mathlib.Core.Logic.{_⊎_, inl, inr}
-use mathlib.Core.List.{List, [], _∷_, _++_, List·Memᴰ, List·Memᴰ·head, List·Memᴰ·tail, List·Memᴰ·not-nil, List·Memᴰ·append-cases, List·Memᴰ·cases-cons, List·Memᴰ·eq-of-singleton, Memᴰ·append-left}
+use mathlib.Core.List.{List, [], _∷_, _++_, List·Memᴰ, List·Memᴰ·head, List·Memᴰ·tail, List·Memᴰ·not-nil, List·Memᴰ·append-cases}
+use mathlib.Core.List.{List·Memᴰ·cases-cons, List·Memᴰ·eq-of-singleton, Memᴰ·append-left}
 use lib.ListN.{getD, take, drop, take-append-drop}
 use lib.Seq.{getD-take}
 use native.Mathlib.Omega.{arith}
 use Rattle.pdu.specs.Writing.{writtenForm}
 use Rattle.station.specs.Runs.{Call as StationCall, datagram, time}
-use Rattle.station.specs.Units.{made}
-use Rattle.station.specs.declared.Station.{Station}
-use Rattle.trunk.specs.Line.{Entry, offer-made, send-made, reply-heard, record-heard, clock-set, Call, offer, send, to-near, to-far, tick, Line, start, step, run, accepted, acceptedBy, putOut, putOutBy, events, eventsBy, Fair}
-use Rattle.trunk.specs.Demand.{pduAt, count, Demand3}
+use Rattle.trunk.specs.Line.{Entry, offer-made, send-made, reply-heard, record-heard, clock-set, Call, offer, send, to-near, to-far, tick}
+use Rattle.trunk.specs.Line.{Line, start, step, run, accepted, acceptedBy, putOut, putOutBy, events, eventsBy, Fair}
+use Rattle.trunk.specs.Demand.{count}
+use Rattle.trunk.specs.Consequences.{datagrams, WasOffered, Consequences}
 use Rattle.trunk.specs.declared.Offer.{Offer}
 use Rattle.trunk.specs.declared.Offer.the-variants.{Refused as offerRefused, Taken}
 use Rattle.trunk.specs.declared.Arrival.the-variants.{Refused as arrivalRefused, Delivered, Repeat, Early}
 use Rattle.trunk.proofs.Demand3.{demand3}
 
 -- ---- each order once
-
--- the datagrams among a station's calls
-abbrev pub datagrams : List StationCall → List (List ℕ)
-datagrams [] = []
-datagrams (datagram d ∷ cs) = d ∷ datagrams cs
-datagrams (time t ∷ cs) = datagrams cs
 
 datagrams-append : (a b : List StationCall) → datagrams (a ++ b) ≡ datagrams a ++ datagrams b
 datagrams-append [] b = refl
@@ -47,26 +42,7 @@ all-heard : (log : List Entry) → datagrams (events log) ≡ putOut log
 all-heard [] = refl
 all-heard (e ∷ log) = datagrams-append (events log) (eventsBy e) ∙ ap₂ _++_ (all-heard log) (entry-heard e)
 
--- An order never reaches the far station twice, whichever replies are lost and however often its record arrives: the datagrams that the station
--- was given are the first k PDUs accepted, each once, in their order.
-pub heard-once : (station : Station) (l : Line) → Demand3 station l → datagrams (events (l .log)) ≡ take (count (l .log)) (accepted (l .log))
-heard-once station l d = all-heard (l .log) ∙ d .in-order
-
--- What the near end counts as acknowledged was put out: PDU i of those accepted is number i of those put out.
-pub acknowledged-was-put-out : (station : Station) (l : Line) → Demand3 station l → (i : ℕ) → i < l .near .acknowledged → getD (putOut (l .log)) i [] ≡ pduAt (l .log) i
-acknowledged-was-put-out station l d i h =
-    ap (λ (x : List (List ℕ)). getD x i []) (d .in-order)
-    ∙ getD-take (count (l .log)) (accepted (l .log)) i [] (omega (arith, d .near-acknowledged, d .acknowledged-put-out))
-
 -- ---- nothing but what was offered
-
--- a PDU that an offer of a list of calls brought: the offer, the number that it took, and the PDU as the writer gives it
-pub record WasOffered (p : List ℕ) (calls : List Call) (log : List Entry) : Type 0 where
-  pub given : List ℕ
-  pub number : ℕ
-  pub call : List·Memᴰ (offer given) calls
-  pub entry : List·Memᴰ (offer-made given (Taken number)) log
-  pub form : p ≡ writtenForm given
 
 -- what was accepted came from an entry
 Came : List ℕ → List Entry → Type 0
@@ -127,20 +103,38 @@ in-list d a l (c ∷ cs) m = elim (in-list d a (step l c) cs m) [ inl here ↦ b
 in-part : (p : List ℕ) (n : ℕ) (l : List (List ℕ)) → List·Memᴰ p (take n l) → List·Memᴰ p l
 in-part p n l m = subst (List·Memᴰ p) (take-append-drop n l) (Memᴰ·append-left (drop n l) m)
 
--- Nothing is put out that was not offered: each PDU put out is, as the writer gives it, the datagram of an offer of the list that was not
--- refused.
-pub only-offered : (level net : ℕ) (store : List ℕ) (calls : List Call) → Fair (start (made level net .station) store) calls → (p : List ℕ) → List·Memᴰ p (putOut (run (start (made level net .station) store) calls .log)) → WasOffered p calls (run (start (made level net .station) store) calls .log)
+-- ---- what demand 3 means for the box
+
+offered-before :
+    (level net : ℕ) (store : List ℕ) (calls : List Call) (p : List ℕ)
+    → List·Memᴰ p (accepted (run (start level net store) calls .log))
+    → WasOffered p calls (run (start level net store) calls .log)
 unfolding Came InList
-only-offered level net store calls fair p m =
-    let l : Line = run (start (made level net .station) store) calls in
-    let d = demand3 level net store calls fair in
-    let c = came p (l .log) (in-part p (count (l .log)) (accepted (l .log)) (subst (List·Memᴰ p) (d .in-order) m)) in
+offered-before level net store calls p m =
+    let begin : Line = start level net store in
+    let c = came p (run begin calls .log) m in
     record {
       given = c .0;
       number = c .1;
-      call =
-          elim (in-list (c .0) (Taken (c .1)) (start (made level net .station) store) calls (c .2))
-          [ inl none ↦ absurd (List·Memᴰ·not-nil none) | inr call ↦ call ];
+      call = elim (in-list (c .0) (Taken (c .1)) begin calls (c .2)) [ inl none ↦ absurd (List·Memᴰ·not-nil none) | inr call ↦ call ];
       entry = c .2;
       form = c .3;
+    }
+
+pub consequences :
+    (level net : ℕ) (store : List ℕ) (calls : List Call)
+    → Fair (start level net store) calls
+    → Consequences calls (run (start level net store) calls)
+consequences level net store calls fair =
+    let l : Line = run (start level net store) calls in
+    let d = demand3 level net store calls fair in
+    let all : List (List ℕ) = accepted (l .log) in
+    record {
+      heard-once = all-heard (l .log) ∙ d .in-order;
+      acknowledged-was-put-out = λ i h.
+          ap (λ (x : List (List ℕ)). getD x i []) (d .in-order)
+          ∙ getD-take (count (l .log)) all i [] (omega (arith, d .near-acknowledged, d .acknowledged-put-out));
+      only-offered = λ p m.
+          offered-before level net store calls p
+          (in-part p (count (l .log)) all (subst (List·Memᴰ p) (d .in-order) m));
     }

@@ -13,23 +13,30 @@ use Rattle.station.specs.Runs.{datagram, time}
 use Rattle.station.specs.Hearing.{heard}
 use Rattle.station.specs.Units.{made}
 use Rattle.station.specs.declared.Station.{Station}
-use Rattle.trunk.specs.Kinds.{headSize, recordSize}
+use Rattle.trunk.specs.Head.{headSize}
+use Rattle.trunk.specs.Kinds.{recordSize}
 use Rattle.trunk.specs.Record.{replyOf, numberIn, carriedIn}
 use Rattle.trunk.specs.Near.{rowKind, offerRecord, replied}
 use Rattle.trunk.specs.Far.{ticked}
-use Rattle.trunk.specs.Line.{Entry, offer-made, send-made, reply-heard, record-heard, clock-set, Call, offer, send, to-near, to-far, tick, Line, start, step, run, accepted, acknowledged, written, Allowed, Fair}
+use Rattle.trunk.specs.Line.{Entry, offer-made, send-made, reply-heard, record-heard, clock-set, Call, offer, send, to-near, to-far, tick}
+use Rattle.trunk.specs.Line.{Line, start, step, run, accepted, acknowledged, written, Allowed, Fair}
 use Rattle.trunk.specs.Demand.{pduAt, count, Says, AllSay, Demand3}
 use Rattle.trunk.specs.declared.Near.{Near}
 use Rattle.trunk.specs.declared.Far.{Far}
 use Rattle.trunk.specs.declared.Offered.{Offered}
-use Rattle.trunk.specs.declared.Sent.{Sent}
+use Rattle.trunk.specs.declared.Sending.{Sending}
 use Rattle.trunk.specs.declared.Replied.{Replied}
 use Rattle.trunk.specs.declared.Arrived.{Arrived}
 use Rattle.trunk.proofs.RecordLaws.{reply-written}
-use Rattle.trunk.proofs.CallLaws.{OfferOutcome, offer-refused, offer-taken, offer-outcome, SendOutcome, send-refused, send-taken, send-outcome, ReplyOutcome, reply-refused, reply-taken, reply-outcome, ArrivalOutcome, arrival-refused, arrival-delivered, arrival-repeat, arrival-early, arrival-outcome}
-use Rattle.trunk.proofs.LogLaws.{Seen, seen, adds-nothing, adds-accepted, writing, adds-written, confirming, delivering, adds-delivered, adds-timed}
+use Rattle.trunk.proofs.RuleLaws.{offer-met, held-met, reply-met, pdu-met}
+use Rattle.trunk.proofs.CallLaws.{OfferOutcome, offer-refused, offer-taken, offer-outcome, SendOutcome, send-refused, send-taken}
+use Rattle.trunk.proofs.CallLaws.{send-outcome, ReplyOutcome, reply-refused, reply-taken, reply-outcome, ArrivalOutcome, arrival-refused}
+use Rattle.trunk.proofs.CallLaws.{arrival-delivered, arrival-repeat, arrival-early, arrival-outcome}
+use Rattle.trunk.proofs.LogLaws.{Seen, seen, more, adds-nothing, adds-accepted, writing, adds-written, confirming, delivering, adds-delivered}
+use Rattle.trunk.proofs.LogLaws.{adds-timed}
 use Rattle.trunk.proofs.Progress.{replied-next, acknowledged-next}
-use Rattle.trunk.proofs.Invariant.{reply-record, Holds, writes, offer-keeps, held-size, held-written, send-keeps, larger, reply-keeps, known-bytes, arriving, delivery-keeps, clock-keeps}
+use Rattle.trunk.proofs.Invariant.{reply-record, Holds, writes, offer-keeps, held-size, held-written, send-keeps, larger, reply-keeps}
+use Rattle.trunk.proofs.Invariant.{known-bytes, arriving, delivery-keeps, clock-keeps}
 
 -- after a log: the invariant, and every entry says what it should
 pub record Stands (station : Station) (near : Near) (store : List ℕ) (far : Far) (log : List Entry) : Type 0 where
@@ -38,57 +45,91 @@ pub record Stands (station : Station) (near : Near) (store : List ℕ) (far : Fa
 
 module _ {station : Station} {near : Near} {store : List ℕ} {far : Far} {log : List Entry} (s : Stands station near store far log) where
   -- an entry, with what it says
-  also : {near′ : Near} {store′ : List ℕ} {far′ : Far} {v : Seen} (e : Entry) → seen (e ∷ log) ≡ v → Holds station near′ store′ far′ v → Says e log → Stands station near′ store′ far′ (e ∷ log)
+  also :
+      {near′ : Near} {store′ : List ℕ} {far′ : Far} {v : Seen} (e : Entry)
+      → seen (e ∷ log) ≡ v
+      → Holds station near′ store′ far′ v
+      → Says e log
+      → Stands station near′ store′ far′ (e ∷ log)
   also {near′} {store′} {far′} e same holds says =
       record { holds = subst (Holds station near′ store′ far′) (sym same) holds; all-say = (says, s .all-say) }
 
-  after-offer : (d : List ℕ) → Bytes d → {o : Offered} {store′ : List ℕ} → OfferOutcome near store d o store′ → Stands station (o .near) store′ far (offer-made d (o .answer) ∷ log)
+  after-offer :
+      (d : List ℕ)
+      → Bytes d
+      → {o : Offered} {store′ : List ℕ}
+      → OfferOutcome near store d o store′
+      → Stands station (o .near) store′ far (offer-made d (o .answer) ∷ log)
   after-offer d b (offer-refused n f) = also _ (adds-nothing (seen log)) (s .holds) tt
   after-offer d b (offer-taken m) =
-      also _ (adds-accepted (seen log) (writtenForm d) (offerRecord near d)) (offer-keeps (s .holds) d b m) (s .holds .counts .near-accepted)
+      also _
+      (adds-accepted (seen log) (writtenForm d) (offerRecord near d))
+      (offer-keeps (s .holds) d b (offer-met near store d m))
+      (s .holds .counts .near-accepted)
 
-  after-send : (i : ℕ) (out : List ℕ) {a : Sent} {out′ : List ℕ} → SendOutcome near store i out a out′ → Stands station near store far (send-made i a out′ ∷ log)
+  after-send :
+      (i : ℕ) (out : List ℕ) {o : Sending} {out′ : List ℕ}
+      → SendOutcome near store i out o out′
+      → Stands station (o .near) store far (send-made i (o .answer) out′ ∷ log)
   after-send i out (send-refused n f) = also _ (adds-nothing (seen log)) (s .holds) tt
   after-send i out (send-taken m) =
       let h = s .holds in
-      let held : acknowledged log ≤ i = omega (arith, m .1 .0 .0, h .counts .near-acknowledged) in
-      let below : i < length (accepted log) = omega (arith, m .1 .0 .1, h .counts .near-accepted) in
+      let within = held-met near store i (length out) m in
+      let held : acknowledged log ≤ i = omega (arith, within .0, h .counts .near-acknowledged) in
+      let below : i < length (accepted log) = omega (arith, within .1, h .counts .near-accepted) in
       let record-is = held-written h i held below (drop (recordSize (rowKind store i)) out) in
       also _
       (adds-written (seen log) _ ∙ ap (writing (seen log)) record-is)
       (send-keeps h i held below)
       (below, record-is, held-size h i held below)
 
-  after-reply : (r : List ℕ) → List·Memᴰ r (written log) → {o : Replied} → ReplyOutcome near r o → Stands station (o .near) store far (reply-heard r (o .answer) ∷ log)
+  after-reply :
+      (r : List ℕ)
+      → List·Memᴰ r (written log)
+      → {o : Replied}
+      → ReplyOutcome near r o
+      → Stands station (o .near) store far (reply-heard r (o .answer) ∷ log)
   after-reply r w (reply-refused n f) = also _ (adds-nothing (seen log)) (s .holds) tt
   after-reply r w (reply-taken m) =
       also _
       (adds-nothing (confirming (seen log) (max (acknowledged log) (numberIn r))))
-      (reply-keeps (s .holds) r (s .holds .known r w) m)
+      (reply-keeps (s .holds) r (s .holds .known r w) (reply-met near r m))
       (larger (s .holds) (numberIn r))
 
   -- a reply with the count as it stands
   replied-again : (reply : List ℕ) → take headSize (replyOf (far .count) ++ drop headSize reply) ≡ replyOf (far .count)
   replied-again reply = reply-written (far .count) (drop headSize reply)
 
+  written-again :
+      (reply : List ℕ)
+      → more (seen log) [] [] (take headSize (replyOf (far .count) ++ drop headSize reply) ∷ []) [] []
+      ≡ writing (seen log) (replyOf (far .count))
+  written-again reply = adds-written (seen log) _ ∙ ap (writing (seen log)) (replied-again reply)
+
   again : Holds station near store far (writing (seen log) (replyOf (far .count)))
   again = writes (s .holds) (replyOf (far .count)) (reply-record (far .count) (omega (arith, s .holds .counts .far-count)) refl)
 
-  after-arrival : (r reply out : List ℕ) → List·Memᴰ r (written log) → {o : Arrived} {reply′ out′ : List ℕ} → ArrivalOutcome far r reply out o reply′ out′ → Stands station near store (o .far) (record-heard r (o .answer) reply′ out′ ∷ log)
+  after-arrival :
+      (r reply out : List ℕ)
+      → List·Memᴰ r (written log)
+      → {o : Arrived} {reply′ out′ : List ℕ}
+      → ArrivalOutcome far r reply out o reply′ out′
+      → Stands station near store (o .far) (record-heard r (o .answer) reply′ out′ ∷ log)
   after-arrival r reply out w (arrival-refused n f) = also _ (adds-nothing (seen log)) (s .holds) tt
   after-arrival r reply out w (arrival-delivered m e) =
-      let this = arriving (s .holds) r (s .holds .known r w) (m .1 .1 .0) in
+      let this = arriving (s .holds) r (s .holds .known r w) (pdu-met r _ _ m) in
       let number : numberIn r ≡ count log = e ∙ s .holds .counts .far-count in
       let pdu = take-at (carriedIn r) (drop (length (carriedIn r)) out) (length (carriedIn r)) refl in
       let answered = reply-written (far .count + 1) (drop headSize reply) in
+      let said : ℕ = heard (far .station) (carriedIn r) .answer in
       also _
-      (adds-delivered (seen log) _ _ _ _ ∙ ap₂ (λ (p q : List ℕ). delivering (seen log) p q (datagram p) (heard (far .station) (carriedIn r) .answer)) pdu answered)
+      (adds-delivered (seen log) _ _ _ _ ∙ ap₂ (λ (p q : List ℕ). delivering (seen log) p q (datagram p) said) pdu answered)
       (delivery-keeps (s .holds) r this e)
       (ap length (this .pdu ∙ ap (pduAt log) number), answered ∙ ap (λ (n : ℕ). replyOf (n + 1)) (s .holds .counts .far-count))
   after-arrival r reply out w (arrival-repeat m l) =
-      also _ (adds-written (seen log) _ ∙ ap (writing (seen log)) (replied-again reply)) again (replied-again reply ∙ ap replyOf (s .holds .counts .far-count))
+      also _ (written-again reply) again (replied-again reply ∙ ap replyOf (s .holds .counts .far-count))
   after-arrival r reply out w (arrival-early m l) =
-      also _ (adds-written (seen log) _ ∙ ap (writing (seen log)) (replied-again reply)) again (replied-again reply ∙ ap replyOf (s .holds .counts .far-count))
+      also _ (written-again reply) again (replied-again reply ∙ ap replyOf (s .holds .counts .far-count))
 
   after-clock : (t : ℕ) → Stands station near store (ticked far t .far) (clock-set t (ticked far t .answer) ∷ log)
   unfolding ticked
@@ -112,8 +153,8 @@ pub run-stands : {station : Station} (l : Line) (calls : List Call) → Fair l c
 run-stands l [] f s = s
 run-stands l (c ∷ cs) f s = run-stands (step l c) cs (f .1) (step-stands l c (f .0) s)
 
-pub start-stands : (station : Station) (store : List ℕ) → StandsAt station (start station store)
-start-stands station store =
+pub start-stands : (level net : ℕ) (store : List ℕ) → StandsAt (made level net .station) (start level net store)
+start-stands level net store =
     record {
       holds =
           record {
@@ -164,7 +205,10 @@ stands-demand l s =
     }
 
 -- for every fair list of calls, from a fresh near end, any store, and a fresh far end, its station of any settings
-pub demand3 : (level net : ℕ) (store : List ℕ) (calls : List Call) → Fair (start (made level net .station) store) calls → Demand3 (made level net .station) (run (start (made level net .station) store) calls)
+pub demand3 :
+    (level net : ℕ) (store : List ℕ) (calls : List Call)
+    → Fair (start level net store) calls
+    → Demand3 (made level net .station) (run (start level net store) calls)
 demand3 level net store calls fair =
-    let station : Station = made level net .station in
-    stands-demand (run (start station store) calls) (run-stands (start station store) calls fair (start-stands station store))
+    let begin : Line = start level net store in
+    stands-demand (run begin calls) (run-stands begin calls fair (start-stands level net store))

@@ -1,29 +1,40 @@
--- What the rules that an end's call has passed say, for the proofs of the code: the store's size, the kind, the room.
+-- What the rules that a call has passed say, for the proofs of the code: the store's size, the kind, the head, the room. Each is read off the
+-- first broken rule of the call, which is none.
 -- Assumes nothing.
-use Prim.Native.Nat.{ℕ, _+_, _-_, _/_, _≤_, _<_}
+use Prim.Native.Nat.{ℕ, _+_, _-_, _≤_, _<_}
 use mathlib.Core.Path.{_≡_, refl, sym, ap, _∙_}
+use mathlib.Core.Logic.{_≢_}
 use mathlib.Core.Bool.{Bool, true, false, cond, not, _&&_}
-use mathlib.Core.List.{List, _∷_, _++_}
+use mathlib.Core.List.{List, [], _∷_, _++_}
 use lib.ListN.{length, take, drop, length-take, length-drop}
-use lib.Dec.{eqb, leb}
+use lib.Dec.{eqb}
 use native.Mathlib.Nat.{add-sub-cancel-left}
 use native.Mathlib.Omega.{arith}
-use borrow.Author.Tests.{eqb-true, eqb-false, ltb-false, not-false, leb-true}
+use borrow.Author.Tests.{eqb-true, eqb-false, ne-eqb, ltb-false, lt-ltb, le-ltb, not-true, not-false}
 use Rattle.wire.specs.Bytes.{splice}
-use Rattle.wire.specs.First.{Refusal, _given-when_, first}
+use Rattle.wire.specs.First.{Refusal, _given-when_, first, numbered}
 use Rattle.wire.proofs.ByteLaws.{splice-start}
-use Rattle.wire.proofs.FirstLaws.{none-behind, unbroken}
-use Rattle.pdu.specs.Reading.{reading, numberOf}
-use Rattle.pdu.specs.declared.Reading.{Reading}
+use Rattle.wire.proofs.TableLaws.{both-true}
+use Rattle.wire.proofs.FirstLaws.{unbroken, none-behind, first-here, first-next}
 use Rattle.pdu.proofs.RuleLaws.{not-below, neither}
-use Rattle.pdu.proofs.Carried.{taken-words}
-use Rattle.trunk.specs.Kinds.{words, transmitter, nothing, unknown, loadSize, recordSize, kindOf, kindOfWords, noKind}
-use Rattle.trunk.specs.Record.{kindIn, numberIn, lastNumber, isReply, lastOfAll, checkRules}
-use Rattle.trunk.specs.Near.{offerRulesOf, sendRules, rowKind, rowRecord, rowStart}
-use Rattle.trunk.specs.Far.{arrivalRules, isNext}
+use Rattle.trunk.specs.Head.{headSize}
+use Rattle.trunk.specs.Kinds.{load, isUnknown, recordSize, longestPdu, longestRecord, noKind}
+use Rattle.trunk.specs.Record.{kindIn, numberIn, lastNumber, unknownKind, wrongSize, isReply, lastOfAll, formRules, pduRules, checkRules}
+use Rattle.trunk.specs.Near.{rowSize, storeSize, rowStart, rowKind, rowRecord, offerRulesOf, sendRules, replyRest, replyRules}
+use Rattle.trunk.specs.Far.{roomRules, arrivalRest, arrivalRules, isNext}
 use Rattle.trunk.specs.declared.Near.{Near}
-use Rattle.trunk.proofs.KindLaws.{right-size}
-use Rattle.trunk.proofs.WriteLaws.{carried-type}
+use Rattle.trunk.proofs.KindLaws.{record-small}
+
+-- ---- rules in order
+
+-- where no rule of two lists in a row is broken, none of either is
+pub none-of : (a b : List Refusal) → numbered a ≡ true → first (a ++ b) ≡ 0 → (first a ≡ 0) × (first b ≡ 0)
+none-of [] b u e = (refl, e)
+none-of ((n given-when true) ∷ a) b u e = absurd (eqb-false n 0 (positive n (numbered a) u) e)
+  where
+    positive : (m : ℕ) (t : Bool) → (not (eqb m 0) && t) ≡ true → eqb m 0 ≡ false
+    positive m t v = not-true (eqb m 0) (both-true (not (eqb m 0)) t v .0)
+none-of ((n given-when false) ∷ a) b u e = none-of a b (both-true (not (eqb n 0)) (numbered a) u .1) e
 
 -- the reader's own number, where it is the refusal
 reader-passes : (n : ℕ) (rest : List Refusal) → first ((n given-when not (eqb n 0)) ∷ rest) ≡ 0 → (n ≡ 0) × (first rest ≡ 0)
@@ -31,52 +42,89 @@ reader-passes n rest e = go (eqb n 0) refl e
   where
     go : (b : Bool) → eqb n 0 ≡ b → cond (not b) n (first rest) ≡ 0 → (n ≡ 0) × (first rest ≡ 0)
     go true z r = (eqb-true n 0 z, r)
-    go false z r = elim (eqb-false n 0 z r) [ ]
+    go false z r = absurd (eqb-false n 0 z r)
 
--- an offer that is taken: the store has its size, the datagram is taken and carried, and the number is not the last
-pub record OfferFits (near : Near) (size : ℕ) (answer : Reading) : Type 0 where
-  pub store : size ≡ 1536
-  pub taken : numberOf answer ≡ 0
-  pub carried : kindOf answer ≡ noKind → ⊥
-  pub number : near .accepted ≡ 4294967295 → ⊥
+-- ---- a record's form
 
-pub offer-fits : (near : Near) (size : ℕ) (answer : Reading) → first (offerRulesOf near size answer) ≡ 0 → OfferFits near size answer
+-- an empty record has no kind to refuse, and is refused by 21
+pub empty-kind : (r : List ℕ) → length r ≡ 0 → unknownKind r ≡ false
+unfolding unknownKind
+empty-kind r e = ap (λ (b : Bool). b && isUnknown (load (kindIn r))) (le-ltb 0 (length r) (omega arith))
+
+pub present-kind : (r : List ℕ) → 1 ≤ length r → unknownKind r ≡ isUnknown (load (kindIn r))
+unfolding unknownKind
+present-kind r h = ap (λ (b : Bool). b && isUnknown (load (kindIn r))) (lt-ltb 0 (length r) h)
+
+pub never-empty : (r : List ℕ) → length r ≡ 0 → wrongSize r ≡ true
+unfolding wrongSize
+never-empty r e =
+    ap not (ne-eqb (length r) (recordSize (kindIn r)) (λ (h : length r ≡ recordSize (kindIn r)). omega arith))
+
+-- a record of the right form has the length of its kind, so a head, and is no longer than the longest
+pub record Formed (r : List ℕ) : Type 0 where
+  pub head : headSize ≤ length r
+  pub short : length r ≤ longestRecord
+
+pub formed : (r : List ℕ) → first (formRules r) ≡ 0 → Formed r
+unfolding formRules wrongSize
+formed r e =
+    let exact : length r ≡ recordSize (kindIn r) = eqb-true _ _ (not-false _ (unbroken 1 (formRules r) refl e)) in
+    record { head = omega arith; short = omega (arith, record-small (kindIn r)) }
+
+-- a broken rule on the form, or on the PDU, is the first; where there is none, the rules behind them answer
+pub form-first : (r : List ℕ) (rest : List Refusal) → first (formRules r) ≢ 0 → first (formRules r ++ rest) ≡ first (formRules r)
+form-first r rest h = first-here (formRules r) rest h
+
+pub form-next : (r : List ℕ) (rest : List Refusal) → first (formRules r) ≡ 0 → first (formRules r ++ rest) ≡ first rest
+unfolding formRules
+form-next r rest e = first-next (formRules r) rest refl e
+
+pub pdu-first : (r : List ℕ) (rest : List Refusal) → first (pduRules r) ≢ 0 → first (pduRules r ++ rest) ≡ first (pduRules r)
+pdu-first r rest h = first-here (pduRules r) rest h
+
+pub pdu-next : (r : List ℕ) (rest : List Refusal) → first (pduRules r) ≡ 0 → first (pduRules r ++ rest) ≡ first rest
+unfolding pduRules
+pdu-next r rest e = first-next (pduRules r) rest refl e
+
+-- where no rule is broken, neither one on the form, or on the PDU, nor one behind them is
+pub form-none : (r : List ℕ) (rest : List Refusal) → first (formRules r ++ rest) ≡ 0 → (first (formRules r) ≡ 0) × (first rest ≡ 0)
+unfolding formRules
+form-none r rest e = none-of (formRules r) rest refl e
+
+pub pdu-none : (r : List ℕ) (rest : List Refusal) → first (pduRules r ++ rest) ≡ 0 → (first (pduRules r) ≡ 0) × (first rest ≡ 0)
+unfolding pduRules
+pdu-none r rest e = none-of (pduRules r) rest refl e
+
+-- ---- what each call's rules say
+
+pub checked-form : (r : List ℕ) → first (checkRules r) ≡ 0 → Formed r
+checked-form r e = formed r (form-none r (pduRules r) e .0)
+
+pub reply-form : (near : Near) (r : List ℕ) → first (replyRules near r) ≡ 0 → Formed r
+unfolding replyRules
+reply-form near r e = formed r (form-none r (replyRest near r) e .0)
+
+-- an offer that is taken: the store has its size, the datagram is carried, and the number is not the last
+pub record OfferFits (near : Near) (size kind : ℕ) : Type 0 where
+  pub store : size ≡ storeSize
+  pub carried : kind ≢ noKind
+  pub number : near .accepted ≢ lastNumber
+
+pub offer-fits : (near : Near) (size read kind : ℕ) → first (offerRulesOf near size read kind) ≡ 0 → OfferFits near size kind
 unfolding offerRulesOf
-offer-fits near size answer e =
-    let rules = offerRulesOf near size answer in
-    let read = reader-passes (numberOf answer) (drop 2 rules) (none-behind 1 rules refl e) in
+offer-fits near size read kind e =
+    let rules = offerRulesOf near size read kind in
+    let store = none-of (take 1 rules) (drop 1 rules) refl e in
+    let reader = reader-passes read (drop 2 rules) (store .1) in
     record {
-      store = eqb-true size 1536 (not-false (eqb size 1536) (unbroken 0 rules refl e));
-      taken = read .0;
-      carried = eqb-false (kindOf answer) noKind (unbroken 0 (drop 2 rules) refl (read .1));
-      number = eqb-false (near .accepted) 4294967295 (unbroken 1 (drop 2 rules) refl (read .1));
+      store = eqb-true _ _ (not-false _ (unbroken 0 rules refl e));
+      carried = eqb-false _ _ (unbroken 0 (drop 2 rules) refl (reader .1));
+      number = eqb-false _ _ (unbroken 1 (drop 2 rules) refl (reader .1));
     }
-
--- a kind that carries a datagram is a byte
-pub carried-byte : (d : List ℕ) → (kindOf (reading d) ≡ noKind → ⊥) → kindOf (reading d) < 256
-carried-byte d h = go (reading d) refl
-  where
-    go : (r : Reading) → reading d ≡ r → kindOf (reading d) < 256
-    go (Reading.Refused n) e = elim (h (ap kindOf e)) [ ]
-    go (Reading.Transmitter t) e = rw e (omega arith)
-    go (Reading.Signal s n) e =
-        let z = carried-type (s .network .«message_type») n (λ k. h (ap kindOf e ∙ k)) in
-        let kind : kindOf (reading d) ≡ (n - 6) / 10 = ap kindOf e ∙ ap (λ (k : ℕ). kindOfWords k n) z in
-        omega (arith, taken-words d s n e z .1)
-
--- no record is longer than 185 bytes
-pub record-small : (kind : ℕ) → recordSize kind ≤ 185
-record-small kind = go (leb kind 12) (eqb kind 16) (eqb kind 32) refl
-  where
-    go : (a b c : Bool) → leb kind 12 ≡ a → 5 + loadSize (cond a (words kind) (cond b transmitter (cond c nothing unknown))) ≤ 185
-    go true b c e = omega (arith, leb-true kind 12 e)
-    go false true c e = omega arith
-    go false false true e = omega arith
-    go false false false e = omega arith
 
 -- a send that is taken: the store has its size, and the buffer has room for the record
 pub record SendFits (store : List ℕ) (i room : ℕ) : Type 0 where
-  pub full : length store ≡ 1536
+  pub full : length store ≡ storeSize
   pub space : recordSize (rowKind store i) ≤ room
 
 pub send-fits : (near : Near) (store : List ℕ) (i room : ℕ) → first (sendRules near store i room) ≡ 0 → SendFits store i room
@@ -84,53 +132,52 @@ unfolding sendRules
 send-fits near store i room e =
     let rules = sendRules near store i room in
     record {
-      full = eqb-true (length store) 1536 (not-false (eqb (length store) 1536) (unbroken 0 rules refl e));
-      space = ltb-false room (recordSize (rowKind store i)) (unbroken 4 rules refl e);
+      full = eqb-true _ _ (not-false _ (unbroken 0 rules refl e));
+      space = ltb-false _ _ (unbroken 4 rules refl e);
     }
 
 -- a row's record, copied to a buffer's start
-pub row-copied : (store out : List ℕ) (i : ℕ) → length store ≡ 1536 → rowStart i ≤ 1344 → recordSize (rowKind store i) ≤ length out → splice 0 (take (rowStart i + recordSize (rowKind store i) - rowStart i) (drop (rowStart i) store)) out ≡ rowRecord store i ++ drop (recordSize (rowKind store i)) out
-row-copied store out i size start room =
+pub row-copied :
+    (store out : List ℕ) (i : ℕ)
+    → length store ≡ storeSize
+    → recordSize (rowKind store i) ≤ length out
+    → splice 0 (take (rowStart i + recordSize (rowKind store i) - rowStart i) (drop (rowStart i) store)) out
+    ≡ rowRecord store i ++ drop (recordSize (rowKind store i)) out
+row-copied store out i size room =
     let n = recordSize (rowKind store i) in
     let part : take (rowStart i + n - rowStart i) (drop (rowStart i) store) ≡ rowRecord store i =
     ap (λ (m : ℕ). take m (drop (rowStart i) store)) (add-sub-cancel-left (rowStart i) n) in
-    let small : n ≤ 185 = record-small (rowKind store i) in
+    let small : n ≤ longestRecord = record-small (rowKind store i) in
     let long : length (rowRecord store i) ≡ n = simp (length-take, length-drop) (omega arith) in
     ap (λ (b : List ℕ). splice 0 b out) part
     ∙ splice-start (rowRecord store i) out (rw long room)
     ∙ ap (λ (m : ℕ). rowRecord store i ++ drop m out) long
 
--- a PDU record that 25 does not stop
-last-not : (r : List ℕ) → isReply r ≡ false → lastOfAll r ≡ false → numberIn r ≡ 4294967295 → ⊥
-unfolding lastOfAll
-last-not r pdu e = eqb-false (numberIn r) 4294967295 (sym (ap (λ (b : Bool). not b && eqb (numberIn r) 4294967295) pdu) ∙ e)
-
--- an arrival that is not refused: a head, a PDU of at most 180 bytes, and room for both
+-- an arrival that is not refused: a head, a PDU that fits the output, and room for both; and the number is not the last
 pub record ArrivalFits (r : List ℕ) (replyRoom room : ℕ) : Type 0 where
-  pub head : 5 ≤ length r
-  pub size : length r ≤ 185
-  pub reply : 5 ≤ replyRoom
-  pub output : 180 ≤ room
-  pub number : numberIn r ≡ 4294967295 → ⊥
+  pub form : Formed r
+  pub reply : headSize ≤ replyRoom
+  pub output : longestPdu ≤ room
+  pub number : numberIn r ≢ lastNumber
+
+-- a PDU record that 25 does not stop
+last-not : (r : List ℕ) → isReply r ≡ false → first (pduRules r) ≡ 0 → numberIn r ≢ lastNumber
+unfolding pduRules lastOfAll
+last-not r pdu e = eqb-false _ _ (sym (ap (λ (b : Bool). not b && eqb (numberIn r) lastNumber) pdu) ∙ unbroken 0 (pduRules r) refl e)
 
 pub arrival-fits : (r : List ℕ) (replyRoom room : ℕ) → first (arrivalRules r replyRoom room) ≡ 0 → ArrivalFits r replyRoom room
 unfolding arrivalRules
 arrival-fits r replyRoom room e =
-    let rules = arrivalRules r replyRoom room in
-    let exact = right-size r (unbroken 1 rules refl e) in
-    let space = neither _ _ (not-below replyRoom 5) (not-below room 180) .0 (unbroken 5 rules refl e) in
+    let form = form-none r (arrivalRest r replyRoom room) e in
+    let no-reply = unbroken 0 (arrivalRest r replyRoom room) refl (form .1) in
+    let pdu = pdu-none r (roomRules replyRoom room) (none-behind 1 (arrivalRest r replyRoom room) refl (form .1)) in
+    let space = neither _ _ (not-below replyRoom _) (not-below room _) .0 (unbroken 0 (roomRules replyRoom room) refl (pdu .1)) in
     record {
-      head = omega (arith, exact);
-      size = rw exact (record-small (kindIn r));
+      form = formed r (form .0);
       reply = space .0;
       output = space .1;
-      number = last-not r (unbroken 2 rules refl e) (unbroken 3 rules refl e);
+      number = last-not r no-reply (pdu .0);
     }
-
--- a record that the check takes is at most 185 bytes
-pub checked-short : (r : List ℕ) → first (checkRules r) ≡ 0 → length r ≤ 185
-unfolding checkRules
-checked-short r e = rw (right-size r (unbroken 1 (checkRules r) refl e)) (record-small (kindIn r))
 
 -- the next number is the count, so the count is below the last of all
 pub next-below : (k number : ℕ) → isNext k number ≡ true → number < lastNumber → k < lastNumber

@@ -1,44 +1,54 @@
 -- Each answer of each call, exactly when it is given, in plain numbers: a refusal's number is that of the first plain rule that does not hold,
 -- and every other answer is given exactly where all rules hold, with the values that document 01 names. By the outcome of each call.
 -- Assumes nothing.
-use Prim.Native.Nat.{ℕ, _<_, max}
+use Prim.Native.Nat.{ℕ}
 use mathlib.Core.Path.{_≡_, refl, sym, ap, ap₂, subst, _∙_}
 use mathlib.Core.Logic.{_↔_, _≢_}
 use mathlib.Core.List.{List, [], _∷_}
 use lib.ListN.{length, getD}
 use native.Mathlib.Omega.{arith}
-use Rattle.wire.specs.Bytes.{num, Bytes}
+use Rattle.wire.specs.Bytes.{Bytes}
 use Rattle.wire.specs.First.{Refusal}
 use Rattle.pdu.specs.Plain.{Rule, Met, FirstBroken}
 use Rattle.pdu.proofs.RuleLaws.{Verdict}
 use Rattle.station.specs.Hearing.{heard}
 use Rattle.trunk.specs.Kinds.{recordSize}
 use Rattle.trunk.specs.Record.{numberIn, carriedIn}
-use Rattle.trunk.specs.Near.{rowStart, rowKind, acknowledgedAfter, offerSays, sendSays, replySays, offered, sent, replied}
+use Rattle.trunk.specs.Near.{rowKind, acknowledgedAfter, offerSays, sendSays, replySays, offered, sent, replied}
 use Rattle.trunk.specs.Far.{arrived, arrivalSays}
+use Rattle.trunk.specs.Exactly.{OfferExactly, SendExactly, ReplyExactly, ArriveExactly}
 use Rattle.trunk.specs.Plain.{plainOffer, plainSend, plainReply, plainArrival}
 use Rattle.trunk.specs.declared.Near.{Near}
 use Rattle.trunk.specs.declared.Far.{Far}
-use Rattle.trunk.specs.declared.Offer.{Offer}
 use Rattle.trunk.specs.declared.Offer.the-variants.{Refused as offerRefused, Taken}
 use Rattle.trunk.specs.declared.Offered.{Offered}
-use Rattle.trunk.specs.declared.Sent.{Sent}
+use Rattle.trunk.specs.declared.Sending.{Sending}
 use Rattle.trunk.specs.declared.Sent.the-variants.{Refused as sendRefused, Size}
-use Rattle.trunk.specs.declared.Reply.{Reply}
 use Rattle.trunk.specs.declared.Reply.the-variants.{Refused as replyRefused, Acknowledged}
 use Rattle.trunk.specs.declared.Replied.{Replied}
 use Rattle.trunk.specs.declared.Arrival.{Arrival}
 use Rattle.trunk.specs.declared.Arrival.the-variants.{Refused as arrivalRefused, Delivered, Repeat, Early}
 use Rattle.trunk.specs.declared.Arrived.{Arrived}
+use Rattle.trunk.proofs.KindLaws.{plain-length}
 use Rattle.trunk.proofs.RuleLaws.{offer-verdict, send-verdict, reply-verdict, arrival-verdict}
-use Rattle.trunk.proofs.CallLaws.{after-is-max, OfferOutcome, offer-refused, offer-taken, offer-outcome, SendOutcome, send-refused, send-taken, send-outcome, ReplyOutcome, reply-refused, reply-taken, reply-outcome, ArrivalOutcome, arrival-refused, arrival-delivered, arrival-repeat, arrival-early, arrival-outcome}
+use Rattle.trunk.proofs.CallLaws.{after-is-max, OfferOutcome, offer-refused, offer-taken, offer-outcome, SendOutcome, send-refused}
+use Rattle.trunk.proofs.CallLaws.{send-taken, send-outcome, ReplyOutcome, reply-refused, reply-taken, reply-outcome, ArrivalOutcome}
+use Rattle.trunk.proofs.CallLaws.{arrival-refused, arrival-delivered, arrival-repeat, arrival-early, arrival-outcome}
 
 -- two statements that never hold
 neither-holds : {A B : Type 0} → ¬ A → ¬ B → A ↔ B
 neither-holds a b = (λ x. absurd (a x), λ y. absurd (b y))
 
 -- where n is the first broken rule's number, no other is
-refused-as : {X : Type 0} (refuse : ℕ → X) (says : X → List ℕ) → ((n : ℕ) → says (refuse n) ≡ n ∷ []) → {rs : List Refusal} (ps : List Rule) → Verdict rs ps → (m : ℕ) → FirstBroken m ps → (n : ℕ) → (refuse m ≡ refuse n) ↔ FirstBroken n ps
+refused-as :
+    {X : Type 0} (refuse : ℕ → X) (says : X → List ℕ)
+    → ((n : ℕ) → says (refuse n) ≡ n ∷ [])
+    → {rs : List Refusal} (ps : List Rule)
+    → Verdict rs ps
+    → (m : ℕ)
+    → FirstBroken m ps
+    → (n : ℕ)
+    → (refuse m ≡ refuse n) ↔ FirstBroken n ps
 refused-as refuse says back ps v m f n = (
   (λ e. subst (λ (k : ℕ). FirstBroken k ps) (ap (λ (l : List ℕ). getD l 0 0) (sym (back m) ∙ ap says e ∙ back n)) f),
   (λ g. ap refuse (sym (v .some m .1 f .0) ∙ v .some n .1 g .0)),
@@ -49,10 +59,6 @@ clash : {rs : List Refusal} (ps : List Rule) → Verdict rs ps → (n : ℕ) →
 clash ps v n f m = let x = v .some n .1 f in x .1 (sym (x .0) ∙ v .none .1 m)
 
 -- ---- offering
-
-pub record OfferExactly (near : Near) (store d : List ℕ) (a : Offer) : Type 0 where
-  pub refused : (n : ℕ) → (a ≡ offerRefused n) ↔ FirstBroken n (plainOffer near store d)
-  pub taken : (i : ℕ) → (a ≡ Taken i) ↔ (Met (plainOffer near store d) × (i ≡ near .accepted))
 
 offer-no-taken : (n i : ℕ) → offerRefused n ≢ Taken i
 offer-no-taken n i e = let z : _≡_ {A = ℕ} 0 1 = cc in omega arith
@@ -80,17 +86,16 @@ offer-exactly-when near store d = offer-exactly near store d (offer-outcome near
 
 -- ---- sending
 
-pub record SendExactly (near : Near) (store : List ℕ) (i room : ℕ) (a : Sent) : Type 0 where
-  pub refused : (n : ℕ) → (a ≡ sendRefused n) ↔ FirstBroken n (plainSend near store i room)
-  pub size : (n : ℕ) → (a ≡ Size n) ↔ (Met (plainSend near store i room) × (n ≡ recordSize (num 1 (rowStart i) store)))
-
 send-no-size : (n m : ℕ) → sendRefused n ≢ Size m
 send-no-size n m e = let z : _≡_ {A = ℕ} 0 1 = cc in omega arith
 
 same-size : (i j : ℕ) → Size j ≡ Size i → i ≡ j
 same-size i j e = cc
 
-send-exactly : (near : Near) (store : List ℕ) (i : ℕ) (out : List ℕ) {a : Sent} {s : List ℕ} → SendOutcome near store i out a s → SendExactly near store i (length out) a
+send-exactly :
+    (near : Near) (store : List ℕ) (i : ℕ) (out : List ℕ) {o : Sending} {s : List ℕ}
+    → SendOutcome near store i out o s
+    → SendExactly near store i (length out) (o .answer)
 send-exactly near store i out (send-refused m f) =
     let v = send-verdict near store i (length out) in
     let rules = plainSend near store i (length out) in
@@ -101,20 +106,19 @@ send-exactly near store i out (send-refused m f) =
 send-exactly near store i out (send-taken met) =
     let v = send-verdict near store i (length out) in
     let rules = plainSend near store i (length out) in
+    let long = plain-length (rowKind store i) in
     record {
       refused = λ n. neither-holds (λ e. send-no-size n (recordSize (rowKind store i)) (sym e)) (λ f. clash rules v n f met);
-      size = λ n. (λ e. (met, same-size n (recordSize (rowKind store i)) e), λ x. ap Size (sym (x .1)));
+      size = λ n. (λ e. (met, same-size n (recordSize (rowKind store i)) e ∙ long), λ x. ap Size (long ∙ sym (x .1)));
     }
 
 -- a send's answer, exactly when
-pub send-exactly-when : (near : Near) (store : List ℕ) (i : ℕ) (out : List ℕ) → SendExactly near store i (length out) (sent near store i (length out))
+pub send-exactly-when :
+    (near : Near) (store : List ℕ) (i : ℕ) (out : List ℕ)
+    → SendExactly near store i (length out) (sent near store i (length out) .answer)
 send-exactly-when near store i out = send-exactly near store i out (send-outcome near store i out)
 
 -- ---- taking a reply
-
-pub record ReplyExactly (near : Near) (r : List ℕ) (a : Reply) : Type 0 where
-  pub refused : (n : ℕ) → (a ≡ replyRefused n) ↔ FirstBroken n (plainReply near r)
-  pub acknowledged : (n : ℕ) → (a ≡ Acknowledged n) ↔ (Met (plainReply near r) × (n ≡ max (near .acknowledged) (num 4 1 r)))
 
 reply-no-count : (n m : ℕ) → replyRefused n ≢ Acknowledged m
 reply-no-count n m e = let z : _≡_ {A = ℕ} 0 1 = cc in omega arith
@@ -144,12 +148,6 @@ reply-exactly-when near r = reply-exactly near r (reply-outcome near r)
 
 -- ---- a record at the far end
 
-pub record ArriveExactly (far : Far) (r : List ℕ) (replyRoom room : ℕ) (a : Arrival) : Type 0 where
-  pub refused : (n : ℕ) → (a ≡ arrivalRefused n) ↔ FirstBroken n (plainArrival r replyRoom room)
-  pub delivered : (size answer : ℕ) → (a ≡ Delivered size answer) ↔ (Met (plainArrival r replyRoom room) × (num 4 1 r ≡ far .count) × (size ≡ length (carriedIn r)) × (answer ≡ heard (far .station) (carriedIn r) .answer))
-  pub repeat : (a ≡ Repeat) ↔ (Met (plainArrival r replyRoom room) × (num 4 1 r < far .count))
-  pub early : (a ≡ Early) ↔ (Met (plainArrival r replyRoom room) × (far .count < num 4 1 r))
-
 -- answers of two kinds differ
 which : Arrival → ℕ
 which (arrivalRefused n) = 0
@@ -163,7 +161,12 @@ differ a b h e = h (ap which e)
 same-delivered : (s t m n : ℕ) → Delivered t n ≡ Delivered s m → (s ≡ t) × (m ≡ n)
 same-delivered s t m n e = (cc, cc)
 
-arrive-exactly : (far : Far) (r reply out : List ℕ) → Bytes r → {o : Arrived} {s t : List ℕ} → ArrivalOutcome far r reply out o s t → ArriveExactly far r (length reply) (length out) (o .answer)
+arrive-exactly :
+    (far : Far) (r reply out : List ℕ)
+    → Bytes r
+    → {o : Arrived} {s t : List ℕ}
+    → ArrivalOutcome far r reply out o s t
+    → ArriveExactly far r (length reply) (length out) (o .answer)
 unfolding which
 arrive-exactly far r reply out b (arrival-refused m f) =
     let v = arrival-verdict r b (length reply) (length out) in
@@ -207,5 +210,8 @@ arrive-exactly far r reply out b (arrival-early met above) =
     }
 
 -- an arrival's answer, exactly when, for every list of bytes
-pub arrive-exactly-when : (far : Far) (r reply out : List ℕ) → Bytes r → ArriveExactly far r (length reply) (length out) (arrived far r (length reply) (length out) .answer)
+pub arrive-exactly-when :
+    (far : Far) (r reply out : List ℕ)
+    → Bytes r
+    → ArriveExactly far r (length reply) (length out) (arrived far r (length reply) (length out) .answer)
 arrive-exactly-when far r reply out b = arrive-exactly far r reply out b (arrival-outcome far r reply out b)

@@ -14,14 +14,16 @@ use borrow.Author.Tests.{eqb-true, ltb-true}
 use Rattle.wire.specs.Bytes.{big, Bytes}
 use Rattle.wire.proofs.TableLaws.{both-true}
 use Rattle.pdu.specs.Records.{transmitterOf, signalOf}
-use Rattle.pdu.specs.Reading.{wrongVersion, wrongType, wrongLength, wrongFixed, wrongSync, wrongBits, networkRules, bodyRules, transmitterRules, signalRules, readingRules, refusal, content, reading}
+use Rattle.pdu.specs.Reading.{wrongVersion, wrongType, wrongLength, wrongFixed, wrongSync, wrongBits, networkRules, bodyRules, transmitterRules}
+use Rattle.pdu.specs.Reading.{signalRules, readingRules, refusal, content, reading}
 use Rattle.pdu.specs.Writing.{transmitterBytes, signalHead, signalBytes, writtenForm, inWrittenForm}
 use Rattle.station.specs.Units.{made}
-use Rattle.trunk.specs.Kinds.{transmitterKind}
-use Rattle.trunk.specs.Record.{recordOf, replyOf, unknownKind, wrongSize, isReply, lastOfAll, wrongCarried}
+use Rattle.trunk.specs.Kinds.{load, longestPdu}
+use Rattle.trunk.specs.Record.{headFor, recordOf, replyOf, unknownKind, wrongSize, isReply, lastOfAll, wrongCarried, formRules, pduRules}
 use Rattle.trunk.specs.Near.{storeSize, rowSize, offerRulesOf, offered, storeAfter, sendRules, sent, sentOut, replyRules, replied}
-use Rattle.trunk.specs.Far.{isNext, countAfter, leastOutput, arrivalRules, arrived, replyAfter, outputAfter, ticked}
-use Rattle.trunk.specs.Line.{Entry, offer-made, send-made, reply-heard, record-heard, clock-set, Call, offer, send, to-near, to-far, tick, Line, start, step, run, collect, accepted, acknowledged, written, Allowed, Fair}
+use Rattle.trunk.specs.Far.{isNext, countAfter, arrivalRules, arrived, replyAfter, outputAfter, ticked}
+use Rattle.trunk.specs.Line.{Entry, offer-made, send-made, reply-heard, record-heard, clock-set, Call, offer, send, to-near, to-far, tick}
+use Rattle.trunk.specs.Line.{Line, start, step, run, collect, accepted, acknowledged, written, Allowed, Fair}
 use Rattle.trunk.specs.Demand.{count, Demand3}
 use Rattle.trunk.specs.declared.Offer.{Offer}
 use Rattle.trunk.specs.declared.Offer.the-variants.{Refused as offerRefused, Taken}
@@ -158,16 +160,16 @@ unfoldable pub sending : ℕ → Call
 sending i = send i (replicate rowSize 170)
 
 unfoldable pub arriving : List ℕ → Call
-arriving r = to-far r (replicate 8 170) (replicate leastOutput 170)
+arriving r = to-far r (replicate 8 170) (replicate longestPdu 170)
 
 unfoldable pub record-0 : List ℕ
-record-0 = recordOf transmitterKind 0 unit
+record-0 = recordOf (headFor 16 0) unit
 
 unfoldable pub record-1 : List ℕ
-record-1 = recordOf 1 1 entry-message
+record-1 = recordOf (headFor 1 1) entry-message
 
 unfoldable pub record-2 : List ℕ
-record-2 = recordOf 1 2 ppli
+record-2 = recordOf (headFor 1 2) ppli
 
 -- each call with its answer
 unfoldable pub story : List (Call × Said)
@@ -206,14 +208,23 @@ answers-of (x ∷ xs) = x .1 ∷ answers-of xs
 
 -- from a store with whatever it held, and a station of level 2, net 0
 unfoldable pub before : Line
-before = start (made 2 0 .station) (replicate storeSize 255)
+before = start 2 0 (replicate storeSize 255)
 
 unfoldable pub after-all : Line
 after-all = run before (calls-of story)
 
 -- the checker computes the test of fairness, each answer, and the three counts
-computed : (fair before (calls-of story) ≡ true) × (collect (λ (e : Entry). said e ∷ []) (after-all .log) ≡ answers-of story) × (length (accepted (after-all .log)) ≡ 4) × (count (after-all .log) ≡ 3) × (acknowledged (after-all .log) ≡ 2)
-unfolding fair allowed among same said story before after-all sending arriving record-0 record-1 record-2 unit entry-message ppli order signal start-of zeros offered storeAfter offerRulesOf sent sentOut sendRules replied replyRules arrived isNext countAfter replyAfter outputAfter arrivalRules ticked recordOf unknownKind wrongSize isReply lastOfAll wrongCarried wrongVersion wrongType wrongLength wrongFixed wrongSync wrongBits networkRules bodyRules transmitterRules signalRules readingRules refusal content reading transmitterOf signalOf transmitterBytes signalHead signalBytes writtenForm inWrittenForm
+computed :
+    (fair before (calls-of story) ≡ true)
+    × (collect (λ (e : Entry). said e ∷ []) (after-all .log) ≡ answers-of story)
+    × (length (accepted (after-all .log)) ≡ 4)
+    × (count (after-all .log) ≡ 3)
+    × (acknowledged (after-all .log) ≡ 2)
+unfolding fair allowed among same said story before after-all sending arriving record-0 record-1 record-2 unit entry-message ppli order
+    signal start-of zeros offered storeAfter offerRulesOf sent sentOut sendRules replied replyRules arrived isNext countAfter replyAfter
+    outputAfter arrivalRules ticked recordOf load unknownKind wrongSize isReply lastOfAll wrongCarried formRules pduRules wrongVersion
+    wrongType wrongLength wrongFixed wrongSync wrongBits networkRules bodyRules transmitterRules signalRules readingRules refusal content
+    reading transmitterOf signalOf transmitterBytes signalHead signalBytes writtenForm inWrittenForm
 computed = (refl, refl, refl, refl, refl)
 
 -- the list is fair, so demand 3 speaks of it; each call answers as its line says; four PDUs are accepted, three put out, two acknowledged

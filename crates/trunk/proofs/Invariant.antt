@@ -5,31 +5,32 @@ use Prim.Native.Nat.{ℕ, _+_, _≤_, _<_, max}
 use mathlib.Core.Path.{_≡_, refl, sym, ap, ap₂, subst, subst₂, _∙_}
 use mathlib.Core.Logic.{_≢_, inl, inr}
 use mathlib.Core.Bool.{Bool, true, false}
-use mathlib.Core.List.{List, [], _∷_, _++_, List·Memᴰ, List·Memᴰ·head, List·Memᴰ·append-cases, List·Memᴰ·eq-of-singleton, Memᴰ·append-left, Memᴰ·append-right}
+use mathlib.Core.List.{List, [], _∷_, _++_, List·Memᴰ, List·Memᴰ·head, List·Memᴰ·append-cases, List·Memᴰ·eq-of-singleton, Memᴰ·append-left}
+use mathlib.Core.List.{Memᴰ·append-right}
 use lib.ListN.{length, getD, take, drop, length-append, List·getD-append}
 use lib.Seq.{length-sets, take-at, take-suc, take-append-le, getD-append-seam}
 use lib.Dec.{ltb}
 use native.Mathlib.Numerals.{add-one}
 use native.Mathlib.Omega.{arith}
 use borrow.Author.Tests.{ltb-true, ltb-false, eqb-false}
-use Rattle.wire.specs.Bytes.{Bytes, splice}
-use Rattle.pdu.specs.Plain.{Met}
+use Rattle.wire.specs.Bytes.{Bytes}
 use Rattle.pdu.specs.Reading.{reading}
 use Rattle.pdu.specs.Writing.{writtenForm}
 use Rattle.pdu.specs.declared.Reading.{Reading}
 use Rattle.station.specs.Runs.{Call as StationCall, datagram, time, called, after, answers}
 use Rattle.station.specs.Hearing.{heard}
-use Rattle.station.specs.Clock.{clocked}
 use Rattle.station.specs.declared.Station.{Station}
 use Rattle.trunk.specs.Kinds.{recordSize, replyKind, kindOf}
-use Rattle.trunk.specs.Record.{recordOf, replyOf, kindIn, numberIn, carriedIn, lastNumber}
-use Rattle.trunk.specs.Near.{rows, rowSize, storeSize, rowStart, rowKind, rowRecord, offerRecord, acknowledgedAfter}
-use Rattle.trunk.specs.Far.{delivered}
-use Rattle.trunk.specs.Plain.{plainOffer, plainReply}
+use Rattle.trunk.specs.Record.{headFor, recordOf, replyOf, kindIn, numberIn, carriedIn, lastNumber}
+use Rattle.trunk.specs.Near.{rows, rowSize, storeSize, rowStart, rowKind, rowRecord, offerRecord, oneAccepted, stored}
+use Rattle.trunk.specs.Near.{acknowledgedAfter, acknowledging}
+use Rattle.trunk.specs.Far.{delivered, ticked}
 use Rattle.trunk.specs.declared.Near.{Near}
 use Rattle.trunk.specs.declared.Far.{Far}
-use Rattle.trunk.proofs.RecordLaws.{Carried, carried-kind, carried-form, carried-in, record-bytes, recordFor, pdu-kind, pdu-number, pdu-length, reply-sound, kind-in}
-use Rattle.trunk.proofs.RuleLaws.{type-says}
+use Rattle.trunk.proofs.KindLaws.{no-reply-says, record-small}
+use Rattle.trunk.proofs.RecordLaws.{type-says, Carried, carried-kind, carried-form, carried-in, record-bytes, recordFor, pdu-kind}
+use Rattle.trunk.proofs.RecordLaws.{pdu-number, pdu-length, reply-sound}
+use Rattle.trunk.proofs.RuleLaws.{OfferMet}
 use Rattle.trunk.proofs.CallLaws.{after-is-max}
 use Rattle.trunk.proofs.RowLaws.{RowHolds, row-written, row-kept, rows-differ, row-kind}
 use Rattle.trunk.proofs.LogLaws.{Seen, accepting, writing, confirming, delivering, timing, after-more, answers-more}
@@ -111,7 +112,13 @@ known-later pdus k n r l (pdu-record i h e) = pdu-record i h e
 known-later pdus k n r l (reply-record j h e) = reply-record j (omega arith) e
 
 -- one more record written
-known-also : (pdus rs : List (List ℕ)) (k : ℕ) (r : List ℕ) → ((x : List ℕ) → List·Memᴰ x rs → Known pdus k x) → Known pdus k r → (x : List ℕ) → List·Memᴰ x (rs ++ (r ∷ [])) → Known pdus k x
+known-also :
+    (pdus rs : List (List ℕ)) (k : ℕ) (r : List ℕ)
+    → ((x : List ℕ) → List·Memᴰ x rs → Known pdus k x)
+    → Known pdus k r
+    → (x : List ℕ)
+    → List·Memᴰ x (rs ++ (r ∷ []))
+    → Known pdus k x
 known-also pdus rs k r old new x m =
     elim (List·Memᴰ·append-cases rs m) [ inl a ↦ old x a | inr b ↦ subst (Known pdus k) (sym (List·Memᴰ·eq-of-singleton b)) new ]
 
@@ -125,7 +132,7 @@ module _ {station : Station} {near : Near} {store : List ℕ} {far : Far} {v : S
   record-length i l = pdu-length i (getD (v .pdus) i []) (h .held .carried i l) (small i l)
 
   pub record-fits : (i : ℕ) → i < length (v .pdus) → length (recordIn (v .pdus) i) ≤ rowSize
-  record-fits i l = rw (record-length i l) (carried-kind (getD (v .pdus) i []) (h .held .carried i l .kind) .kind .fits-row)
+  record-fits i l = omega (arith, record-length i l, record-small (kindOf (reading (getD (v .pdus) i []))))
 
   -- one more record written
   pub writes : (r : List ℕ) → Known (v .pdus) (length (v .out)) r → Holds station near store far (writing v r)
@@ -141,22 +148,21 @@ module _ {station : Station} {near : Near} {store : List ℕ} {far : Far} {v : S
 
   -- ---- an offer
 
-  -- of the rules met, in order: 28 is m .0, the reader's m .1 .0, 23 m .1 .1 .0, 25 m .1 .1 .1 .0, and 24 m .1 .1 .1 .1 .0
-  module _ (d : List ℕ) (b : Bytes d) (m : Met (plainOffer near store d)) where
+  module _ (d : List ℕ) (b : Bytes d) (m : OfferMet near store d) where
     form : Carried (writtenForm d) × (reading (writtenForm d) ≡ reading d)
-    form = carried-form d b (eqb-false _ _ (type-says d (m .1 .0) .1 (m .1 .1 .0)))
+    form = carried-form d b (eqb-false _ _ (type-says d (m .taken) .1 (m .typed)))
 
     room : length (v .pdus) < lastNumber
-    room = let other = m .1 .1 .1 .0 in omega (arith, h .counts .few, h .counts .near-accepted)
+    room = let other = m .more in omega (arith, h .counts .few, h .counts .near-accepted)
 
     -- what it writes is the new PDU's record
     new-record : offerRecord near d ≡ recordFor (length (v .pdus)) (writtenForm d)
-    new-record = ap₂ (λ (r : Reading) (n : ℕ). recordOf (kindOf r) n (writtenForm d)) (sym (form .1)) (h .counts .near-accepted)
+    new-record = ap₂ (λ (r : Reading) (n : ℕ). recordOf (headFor (kindOf r) n) (writtenForm d)) (sym (form .1)) (h .counts .near-accepted)
 
     new-fits : length (offerRecord near d) ≤ rowSize
     new-fits =
         rw (new-record, pdu-length (length (v .pdus)) (writtenForm d) (form .0) room)
-        (carried-kind (writtenForm d) (form .0 .kind) .kind .fits-row)
+        (omega (arith, record-small (kindOf (reading (writtenForm d)))))
 
     stored-record : offerRecord near d ≡ recordIn (v .pdus ++ (writtenForm d ∷ [])) (length (v .pdus))
     stored-record = new-record ∙ ap (recordFor (length (v .pdus))) (sym (new-pdu (v .pdus) (writtenForm d)))
@@ -167,33 +173,44 @@ module _ {station : Station} {near : Near} {store : List ℕ} {far : Far} {v : S
         (λ i l. subst Carried (sym (old-pdu (v .pdus) (writtenForm d) i l)) (h .held .carried i l))
         (subst Carried (sym (new-pdu (v .pdus) (writtenForm d))) (form .0))
 
-    offer-recorded : (i : ℕ) → i < length (v .pdus ++ (writtenForm d ∷ [])) → List·Memᴰ (recordIn (v .pdus ++ (writtenForm d ∷ [])) i) (v .records ++ (offerRecord near d ∷ []))
+    offer-recorded :
+        (i : ℕ)
+        → i < length (v .pdus ++ (writtenForm d ∷ []))
+        → List·Memᴰ (recordIn (v .pdus ++ (writtenForm d ∷ [])) i) (v .records ++ (offerRecord near d ∷ []))
     offer-recorded =
         each-more (v .pdus) (writtenForm d) (λ (i : ℕ). There i (recordIn (v .pdus ++ (writtenForm d ∷ [])) i))
-        (λ i l. subst (λ (q : List ℕ). There i (recordFor i q)) (sym (old-pdu (v .pdus) (writtenForm d) i l)) (Memᴰ·append-left (offerRecord near d ∷ []) (h .recorded i l)))
+        (λ i l.
+        subst (λ (q : List ℕ). There i (recordFor i q)) (sym (old-pdu (v .pdus) (writtenForm d) i l))
+        (Memᴰ·append-left (offerRecord near d ∷ []) (h .recorded i l)))
         (Memᴰ·append-right (v .records) (List·Memᴰ·head (sym stored-record)))
       where
         There : ℕ → List ℕ → Type 0
         There i r = List·Memᴰ r (v .records ++ (offerRecord near d ∷ []))
 
-    offer-stored : (i : ℕ) → i < length (v .pdus ++ (writtenForm d ∷ [])) → v .confirmed ≤ i → RowHolds (splice (rowStart (near .accepted)) (offerRecord near d) store) i (recordIn (v .pdus ++ (writtenForm d ∷ [])) i)
+    offer-stored :
+        (i : ℕ)
+        → i < length (v .pdus ++ (writtenForm d ∷ []))
+        → v .confirmed ≤ i
+        → RowHolds (stored near store d) i (recordIn (v .pdus ++ (writtenForm d ∷ [])) i)
     offer-stored = each-more (v .pdus) (writtenForm d) (λ (i : ℕ). v .confirmed ≤ i → Row i (recordIn (v .pdus ++ (writtenForm d ∷ [])) i)) old new
       where
         Row : ℕ → List ℕ → Type 0
-        Row i r = RowHolds (splice (rowStart (near .accepted)) (offerRecord near d) store) i r
+        Row i r = RowHolds (stored near store d) i r
 
         old : (i : ℕ) → i < length (v .pdus) → v .confirmed ≤ i → Row i (recordIn (v .pdus ++ (writtenForm d ∷ [])) i)
         old i l held =
-            let apart = rows-differ i (near .accepted) (omega (arith, h .counts .near-accepted)) (omega (arith, h .counts .near-acknowledged, m .1 .1 .1 .1 .0)) in
+            let before : i < near .accepted = omega (arith, h .counts .near-accepted) in
+            let apart = rows-differ i (near .accepted) before (omega (arith, h .counts .near-acknowledged, m .free)) in
             subst (λ (q : List ℕ). Row i (recordFor i q)) (sym (old-pdu (v .pdus) (writtenForm d) i l))
-            (row-kept store i (near .accepted) (offerRecord near d) (recordIn (v .pdus) i) (m .0) new-fits (record-fits i l) apart (h .held .stored i held l))
+            (row-kept store i (near .accepted) (offerRecord near d) (recordIn (v .pdus) i) (m .whole) new-fits (record-fits i l) apart
+            (h .held .stored i held l))
 
         new : v .confirmed ≤ length (v .pdus) → Row (length (v .pdus)) (recordIn (v .pdus ++ (writtenForm d ∷ [])) (length (v .pdus)))
         new held =
             subst₂ Row (h .counts .near-accepted) stored-record
-            (row-written store (near .accepted) (offerRecord near d) (m .0) new-fits)
+            (row-written store (near .accepted) (offerRecord near d) (m .whole) new-fits)
 
-    pub offer-keeps : Holds station (record { accepted = near .accepted + 1; acknowledged = near .acknowledged }) (splice (rowStart (near .accepted)) (offerRecord near d) store) far (accepting v (writtenForm d) (offerRecord near d))
+    pub offer-keeps : Holds station (oneAccepted near) (stored near store d) far (accepting v (writtenForm d) (offerRecord near d))
     offer-keeps =
         let c = h .counts in
         let one-more = longer (v .pdus) (writtenForm d) in
@@ -205,13 +222,13 @@ module _ {station : Station} {near : Near} {store : List ℕ} {far : Far} {v : S
                 far-count = c .far-count;
                 acknowledged-put-out = c .acknowledged-put-out;
                 put-out-accepted = omega (arith, one-more, c .put-out-accepted);
-                window = omega (arith, one-more, c .near-accepted, c .near-acknowledged, m .1 .1 .1 .1 .0);
+                window = omega (arith, one-more, c .near-accepted, c .near-acknowledged, m .free);
                 few = omega (arith, one-more, room);
               };
           held =
               record {
                 carried = offer-carried;
-                whole = λ l. length-sets store (rowStart (near .accepted)) (offerRecord near d) ∙ m .0;
+                whole = λ l. length-sets store (rowStart (near .accepted)) (offerRecord near d) ∙ m .whole;
                 stored = λ i held l. offer-stored i l held;
               };
           known =
@@ -254,14 +271,19 @@ module _ {station : Station} {near : Near} {store : List ℕ} {far : Far} {v : S
   reply-number : (r : List ℕ) → Known (v .pdus) (length (v .out)) r → kindIn r ≡ replyKind → numberIn r ≤ length (v .out)
   reply-number r (pdu-record i l e) is =
       let c = h .held .carried i l in
-      absurd (carried-kind (getD (v .pdus) i []) (c .kind) .kind .no-reply (sym (pdu-kind i (getD (v .pdus) i []) c (small i l)) ∙ ap kindIn (sym e) ∙ is))
+      let p : List ℕ = getD (v .pdus) i [] in
+      absurd (no-reply-says _ .0 (carried-kind p (c .kind) .no-reply) (sym (pdu-kind i p c (small i l)) ∙ ap kindIn (sym e) ∙ is))
   reply-number r (reply-record j l e) is =
       rw (e, reply-sound j (omega (arith, h .counts .put-out-accepted, h .counts .few)) .number-is) l
 
-  pub reply-keeps : (r : List ℕ) → Known (v .pdus) (length (v .out)) r → Met (plainReply near r) → Holds station (record { accepted = near .accepted; acknowledged = acknowledgedAfter (near .acknowledged) (numberIn r) }) store far (confirming v (max (v .confirmed) (numberIn r)))
+  pub reply-keeps :
+      (r : List ℕ)
+      → Known (v .pdus) (length (v .out)) r
+      → kindIn r ≡ replyKind
+      → Holds station (acknowledging near (numberIn r)) store far (confirming v (max (v .confirmed) (numberIn r)))
   reply-keeps r w m =
       let c = h .counts in
-      let at-most = reply-number r w (m .1 .1 .0) in
+      let at-most = reply-number r w m in
       record {
         counts =
             record {
@@ -288,8 +310,8 @@ module _ {station : Station} {near : Near} {store : List ℕ} {far : Far} {v : S
   -- ---- a record at the far end
 
   pub known-bytes : (r : List ℕ) → Known (v .pdus) (length (v .out)) r → Bytes r
-  known-bytes r (pdu-record i l e) = subst Bytes (sym e) (record-bytes _ i (getD (v .pdus) i []) (h .held .carried i l .bytes))
-  known-bytes r (reply-record j l e) = subst Bytes (sym e) (record-bytes replyKind j [] (λ i. omega arith))
+  known-bytes r (pdu-record i l e) = subst Bytes (sym e) (record-bytes _ (getD (v .pdus) i []) (h .held .carried i l .bytes))
+  known-bytes r (reply-record j l e) = subst Bytes (sym e) (record-bytes (headFor replyKind j) [] (λ i. omega arith))
 
   -- what is written and is no reply is the record of a PDU
   pub arriving : (r : List ℕ) → Known (v .pdus) (length (v .out)) r → kindIn r ≢ replyKind → Arriving (v .pdus) r
@@ -298,13 +320,15 @@ module _ {station : Station} {near : Near} {store : List ℕ} {far : Far} {v : S
       let number : numberIn r ≡ i = ap numberIn e ∙ pdu-number i p (h .held .carried i l) (small i l) in
       record {
         accepted = omega (arith, number);
-        pdu = ap carriedIn e ∙ carried-in (kindOf (reading p)) i p ∙ ap (λ (n : ℕ). getD (v .pdus) n []) (sym number);
+        pdu = ap carriedIn e ∙ carried-in (headFor (kindOf (reading p)) i) p ∙ ap (λ (n : ℕ). getD (v .pdus) n []) (sym number);
       }
   arriving r (reply-record j l e) other =
-      absurd (other (ap kindIn e ∙ kind-in replyKind j [] (omega arith) (omega (arith, h .counts .put-out-accepted, h .counts .few))))
+      absurd (other (ap kindIn e ∙ reply-sound j (omega (arith, h .counts .put-out-accepted, h .counts .few)) .kind-is))
 
   -- one more call on the far station
-  station-next : (c : StationCall) → Played station (called (far .station) c .station) (v .calls ++ (c ∷ [])) (v .said ++ (called (far .station) c .answer ∷ []))
+  station-next :
+      (c : StationCall)
+      → Played station (called (far .station) c .station) (v .calls ++ (c ∷ [])) (v .said ++ (called (far .station) c .answer ∷ []))
   station-next c =
       let p = h .played in
       record {
@@ -315,7 +339,12 @@ module _ {station : Station} {near : Near} {store : List ℕ} {far : Far} {v : S
       }
 
   -- number k, delivered
-  pub delivery-keeps : (r : List ℕ) → Arriving (v .pdus) r → numberIn r ≡ far .count → Holds station near store (delivered (far .count + 1) (far .station) (carriedIn r) .far) (delivering v (carriedIn r) (replyOf (far .count + 1)) (datagram (carriedIn r)) (heard (far .station) (carriedIn r) .answer))
+  pub delivery-keeps :
+      (r : List ℕ)
+      → Arriving (v .pdus) r
+      → numberIn r ≡ far .count
+      → Holds station near store (delivered (far .count + 1) (far .station) (carriedIn r) .far)
+      (delivering v (carriedIn r) (replyOf (far .count + 1)) (datagram (carriedIn r)) (heard (far .station) (carriedIn r) .answer))
   delivery-keeps r a e =
       let c = h .counts in
       let k : ℕ = length (v .out) in
@@ -348,6 +377,9 @@ module _ {station : Station} {near : Near} {store : List ℕ} {far : Far} {v : S
 
   -- ---- the clock
 
-  pub clock-keeps : (t : ℕ) → Holds station near store (record { count = far .count; station = clocked (far .station) t .station }) (timing v (time t) (clocked (far .station) t .answer))
+  pub clock-keeps :
+      (t : ℕ)
+      → Holds station near store (ticked far t .far) (timing v (time t) (ticked far t .answer))
+  unfolding ticked
   clock-keeps t =
       record { counts = h .counts; held = h .held; known = h .known; recorded = h .recorded; in-order = h .in-order; played = station-next (time t) }

@@ -1,8 +1,8 @@
 -- Laws and theorems of the trunk that belong to no one function.
 pub mod KindLaws
+pub mod RecordLaws
 pub mod WriteLaws
 pub mod EndLaws
-pub mod RecordLaws
 pub mod RuleLaws
 pub mod CallLaws
 pub mod ExactlyWhen

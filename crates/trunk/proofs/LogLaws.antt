@@ -102,7 +102,15 @@ module _ (v : Seen) where
       }
 
   -- an entry adds one of these, or nothing; where it adds nothing to a list, nothing stands behind that list
-  adds : (p o r : List (List ℕ)) (c : List StationCall) (n : List ℕ) {w : Seen} → v .pdus ++ p ≡ w .pdus → v .out ++ o ≡ w .out → v .confirmed ≡ w .confirmed → v .records ++ r ≡ w .records → v .calls ++ c ≡ w .calls → v .said ++ n ≡ w .said → more v p o r c n ≡ w
+  adds :
+      (p o r : List (List ℕ)) (c : List StationCall) (n : List ℕ) {w : Seen}
+      → v .pdus ++ p ≡ w .pdus
+      → v .out ++ o ≡ w .out
+      → v .confirmed ≡ w .confirmed
+      → v .records ++ r ≡ w .records
+      → v .calls ++ c ≡ w .calls
+      → v .said ++ n ≡ w .said
+      → more v p o r c n ≡ w
   adds p o r c n e₁ e₂ e₃ e₄ e₅ e₆ i =
       record { pdus = e₁ i; out = e₂ i; confirmed = e₃ i; records = e₄ i; calls = e₅ i; said = e₆ i }
 
@@ -141,6 +149,8 @@ pub after-more : (s : Station) (cs : List StationCall) (c : StationCall) → aft
 after-more s [] c = refl
 after-more s (x ∷ cs) c = after-more (called s x .station) cs c
 
-pub answers-more : (s : Station) (cs : List StationCall) (c : StationCall) → answers s (cs ++ (c ∷ [])) ≡ answers s cs ++ (called (after s cs) c .answer ∷ [])
+pub answers-more :
+    (s : Station) (cs : List StationCall) (c : StationCall)
+    → answers s (cs ++ (c ∷ [])) ≡ answers s cs ++ (called (after s cs) c .answer ∷ [])
 answers-more s [] c = refl
 answers-more s (x ∷ cs) c = ap (λ (l : List ℕ). called s x .answer ∷ l) (answers-more (called s x .station) cs c)

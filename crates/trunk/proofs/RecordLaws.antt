@@ -1,105 +1,162 @@
 -- Laws of records. A datagram that the trunk carries has a kind of the table, and its written form has the length that the table fixes; a
--- record's kind, number and carried bytes read back; and the record of a carried PDU, or a reply, breaks no rule on records.
+-- record's head and carried bytes read back; and the record of a carried PDU, or a reply, breaks no rule on records. What is cited of the
+-- reader and the writer stands here and in WriteLaws.
 -- Assumes nothing.
-use Prim.Native.Nat.{ℕ, _+_, _≤_, _<_}
+use Prim.Native.Nat.{ℕ, _+_, _*_, _≤_, _<_}
 use mathlib.Core.Path.{_≡_, refl, sym, ap, subst, _∙_}
-use mathlib.Core.Logic.{_≢_, _⊎_, inl, inr}
-use mathlib.Core.Bool.{Bool, true, false, cond, not, and-false}
+use mathlib.Core.Logic.{_↔_, _≢_, Iff·trans}
+use mathlib.Core.Bool.{Bool, true, false, cond, not, _&&_, and-false}
 use mathlib.Core.List.{List, [], _∷_, _++_}
 use lib.ListN.{length, getD, take, length-append}
 use lib.Seq.{take-at, drop-at}
 use lib.Dec.{eqb}
+use native.Mathlib.Nat.{zero-add}
 use native.Mathlib.Omega.{arith}
-use borrow.Author.Tests.{eqb-true, eq-eqb, ne-eqb, le-leb}
+use borrow.Author.Tests.{eqb-true, eqb-false, eq-eqb, ne-eqb}
 use Rattle.wire.specs.Bytes.{Bytes}
-use Rattle.wire.specs.Table.{fill}
+use Rattle.wire.specs.Table.{Fit}
 use Rattle.wire.proofs.TableLaws.{read-fill, length-fill}
 use Rattle.wire.proofs.FitLaws.{bytes-append, bytes-fill}
-use Rattle.pdu.specs.Numbers.{mostWords}
 use Rattle.pdu.specs.Records.{signalSize}
 use Rattle.pdu.specs.Words.{wordsIn}
-use Rattle.pdu.specs.Reading.{reading, refusal, sizeOf}
+use Rattle.pdu.specs.Reading.{reading, refusal, numberOf, sizeOf}
 use Rattle.pdu.specs.Writing.{writtenForm, inWrittenForm}
 use Rattle.pdu.specs.declared.Signal.{Signal as SignalFields}
 use Rattle.pdu.specs.declared.Reading.{Reading}
-use Rattle.pdu.specs.declared.Reading.the-variants.{Refused, Transmitter, Signal}
+use Rattle.pdu.specs.declared.Reading.the-variants.{Refused, Transmitter as aTransmitter, Signal as aSignal}
+use Rattle.pdu.proofs.RuleLaws.{negated, both-then}
 use Rattle.pdu.proofs.Carried.{transmitter-refusal, signal-refusal, taken-words}
+use Rattle.pdu.proofs.TakenExactly.{reads-as, refusal-read}
 use Rattle.pdu.proofs.WrittenForm.{written-form, written-form-exactly, written-form-holds}
-use Rattle.trunk.specs.Kinds.{load, loadSize, isUnknown, recordSize, headSize, transmitterKind, replyKind, noKind, kindOf}
-use Rattle.trunk.specs.Record.{headTable, recordOf, replyOf, kindIn, numberIn, carriedIn, lastNumber, unknownKind, wrongSize, isReply, lastOfAll, wrongCarried}
-use Rattle.trunk.specs.Near.{rowSize}
-
--- ---- kinds
-
--- what the table says of a kind that carries a PDU
-pub record PduKind (kind : ℕ) : Type 0 where
-  pub listed : (kind ≤ mostWords) ⊎ (kind ≡ transmitterKind)
-  pub byte : kind < 256
-  pub known : isUnknown (load kind) ≡ false
-  pub no-reply : kind ≢ replyKind
-  -- a PDU of this kind fits the least output, and its record a row
-  pub fits-row : recordSize kind ≤ rowSize
-
-transmitter-kind : PduKind transmitterKind
-transmitter-kind =
-    record {
-      listed = inr refl;
-      byte = omega arith;
-      known = refl;
-      no-reply = λ e. omega arith;
-      fits-row = omega arith;
-    }
-
-words-kind : (n : ℕ) → n ≤ mostWords → PduKind n
-words-kind n h =
-    record {
-      listed = inl h;
-      byte = omega arith;
-      known = rw (le-leb n mostWords h);
-      no-reply = λ e. omega arith;
-      fits-row = rw (le-leb n mostWords h) (omega arith);
-    }
+use Rattle.trunk.specs.Head.{headTable, headSize, headValues, headAt, headOf, headBytes}
+use Rattle.trunk.specs.Kinds.{load, loadSize, isUnknown, isNothing, recordSize, replyKind, noKind, kindFor, loadOf, loadOfSignal, kindOf}
+use Rattle.trunk.specs.Record.{headFor, recordOf, replyOf, kindIn, numberIn, carriedIn, lastNumber, unknownKind, wrongSize, isReply}
+use Rattle.trunk.specs.Record.{lastOfAll, wrongCarried}
+use Rattle.trunk.specs.Plain.{signal, transmitter, TypeRule, OfKind}
+use Rattle.trunk.specs.declared.Head.{Head}
+use Rattle.trunk.specs.declared.Load.{Load}
+use Rattle.trunk.specs.declared.Load.the-variants.{Words, Transmitter, Unknown}
+use Rattle.trunk.proofs.KindLaws.{load-is}
 
 -- ---- what is carried
 
--- what carrying a datagram says: it is taken, its kind is one that carries a PDU, and that kind fixes its size
+-- the reader's number is its refusal
+pub reader-number : (d : List ℕ) → numberOf (reading d) ≡ refusal d
+reader-number = refusal-read
+
+-- what carrying a datagram says: it is taken, its kind is a byte, the table gives its load back, and that is a PDU of its size
 pub record CarriedKind (d : List ℕ) : Type 0 where
   pub taken : refusal d ≡ 0
-  pub kind : PduKind (kindOf (reading d))
+  pub byte : kindOf (reading d) < 256
+  pub known : isUnknown (load (kindOf (reading d))) ≡ false
+  pub no-reply : isNothing (load (kindOf (reading d))) ≡ false
   pub size : loadSize (load (kindOf (reading d))) ≡ sizeOf (reading d)
 
--- the two facts of an answer's kind
-KindSays : Reading → Type 0
-KindSays r = PduKind (kindOf r) × (loadSize (load (kindOf r)) ≡ sizeOf r)
+-- the same of a load and a size
+record Carries (l : Load) (size : ℕ) : Type 0 where
+  byte : kindFor l < 256
+  back : load (kindFor l) ≡ l
+  known : isUnknown l ≡ false
+  no-reply : isNothing l ≡ false
+  sized : loadSize l ≡ size
 
-signal-says : (d : List ℕ) (s : SignalFields) (n : ℕ) → reading d ≡ Signal s n → kindOf (Signal s n) ≢ noKind → KindSays (Signal s n)
-unfolding KindSays
-signal-says d s n e h = by (eqb (s .network .«message_type») 0) refl h
+carries-transmitter : (size : ℕ) → loadSize Transmitter ≡ size → Carries Transmitter size
+carries-transmitter size e =
+    record { byte = omega arith; back = load-is (transmitter refl); known = refl; no-reply = refl; sized = e }
+
+carries-words : (n size : ℕ) → n ≤ 12 → loadSize (Words n) ≡ size → Carries (Words n) size
+carries-words n size few e =
+    record { byte = omega arith; back = ap load (zero-add n) ∙ load-is (signal few); known = refl; no-reply = refl; sized = e }
+
+-- a Signal that is carried is of type 0
+pub carried-type : (type n : ℕ) → kindFor (loadOfSignal type n) ≢ noKind → type ≡ 0
+carried-type type n h = by (eqb type 0) refl
   where
-    Says : ℕ → Type 0
-    Says k = PduKind k × (loadSize (load k) ≡ signalSize n)
-
-    by : (b : Bool) → eqb (s .network .«message_type») 0 ≡ b → cond b (wordsIn n) noKind ≢ noKind → Says (cond b (wordsIn n) noKind)
-    by true t c =
-        let w = taken-words d s n e (eqb-true _ _ t) in
-        (words-kind (wordsIn n) (w .1), rw (le-leb (wordsIn n) mostWords (w .1)) (ap signalSize (sym (w .0))))
-    by false t c = absurd (c refl)
+    by : (b : Bool) → eqb type 0 ≡ b → type ≡ 0
+    by true e = eqb-true type 0 e
+    by false e = absurd (h (ap (λ (b : Bool). kindFor (cond b (Words (wordsIn n)) Unknown)) e))
 
 pub carried-kind : (d : List ℕ) → kindOf (reading d) ≢ noKind → CarriedKind d
-unfolding KindSays
 carried-kind d h = by (reading d) refl h
   where
-    made : (r : Reading) → reading d ≡ r → refusal d ≡ 0 → KindSays r → CarriedKind d
-    made r e z k =
-        let back : KindSays (reading d) = subst KindSays (sym e) k in
-        record { taken = z; kind = back .0; size = back .1 }
+    made : (r : Reading) → reading d ≡ r → refusal d ≡ 0 → Carries (loadOf r) (sizeOf r) → CarriedKind d
+    made r e z c =
+        let kind : kindOf (reading d) ≡ kindFor (loadOf r) = ap kindOf e in
+        let back : load (kindOf (reading d)) ≡ loadOf r = ap load kind ∙ c .back in
+        record {
+          taken = z;
+          byte = rw kind (c .byte);
+          known = ap isUnknown back ∙ c .known;
+          no-reply = ap isNothing back ∙ c .no-reply;
+          size = ap loadSize back ∙ c .sized ∙ ap sizeOf (sym e);
+        }
 
     by : (r : Reading) → reading d ≡ r → kindOf r ≢ noKind → CarriedKind d
     by (Refused n) e c = absurd (c refl)
-    by (Transmitter t) e c = made (Transmitter t) e (transmitter-refusal d t e) (transmitter-kind, refl)
-    by (Signal s n) e c = made (Signal s n) e (signal-refusal d s n e) (signal-says d s n e c)
+    by (aTransmitter t) e c = made (aTransmitter t) e (transmitter-refusal d t e) (carries-transmitter _ refl)
+    by (aSignal s n) e c =
+        let type = carried-type (s .network .«message_type») n c in
+        let words = taken-words d s n e type in
+        let this : loadOf (aSignal s n) ≡ Words (wordsIn n) = ap (λ (k : ℕ). loadOfSignal k n) type in
+        made (aSignal s n) e (signal-refusal d s n e)
+        (subst (λ (l : Load). Carries l (signalSize n)) (sym this)
+        (carries-words (wordsIn n) (signalSize n) (words .1) (ap signalSize (sym (words .0)))))
 
--- a PDU that the trunk carries, as the writer gives it
+-- ---- 23, of a datagram that is taken
+
+pub type-says : (d : List ℕ) → refusal d ≡ 0 → (eqb (kindOf (reading d)) noKind ≡ false) ↔ TypeRule d
+type-says d z = Iff·trans (eqb-false _ _, ne-eqb _ _) (typed, carried)
+  where
+    typed : kindOf (reading d) ≢ noKind → TypeRule d
+    typed h s n e = carried-type _ n (λ k. h (ap kindOf e ∙ k))
+
+    carried : TypeRule d → kindOf (reading d) ≢ noKind
+    carried t = by (reading d) refl
+      where
+        by : (r : Reading) → reading d ≡ r → kindOf r ≢ noKind
+        by (Refused n) e = λ k. reads-as d (Refused n) .0 e .1 (sym (reads-as d (Refused n) .0 e .0) ∙ z)
+        by (aTransmitter t) e = λ k. omega arith
+        by (aSignal s n) e =
+            let type = t s n e in
+            let few = taken-words d s n e type .1 in
+            rw (eq-eqb _ _ type) (λ k. omega arith)
+
+-- ---- 22: a PDU of that kind
+
+pub of-kind : (d : List ℕ) (kind : ℕ) → refusal d ≡ 0 → kind < noKind → (eqb (kindOf (reading d)) kind ≡ true) ↔ OfKind kind (reading d)
+of-kind d kind z byte = Iff·trans (eqb-true _ _, eq-eqb _ _) (there, back)
+  where
+    there : kindOf (reading d) ≡ kind → OfKind kind (reading d)
+    there same = by (reading d) refl same
+      where
+        by : (r : Reading) → reading d ≡ r → kindOf r ≡ kind → OfKind kind r
+        by (Refused n) e k = absurd (omega arith)
+        by (aTransmitter t) e k = transmitter t (sym k)
+        by (aSignal s n) e k =
+            let type = carried-type (s .network .«message_type») n (λ (none : kindFor (loadOf (aSignal s n)) ≡ noKind). omega arith) in
+            let words : 0 + wordsIn n ≡ kind = sym (ap (λ (t : ℕ). kindFor (loadOfSignal t n)) type) ∙ k in
+            signal s n type (omega (arith, taken-words d s n e type .0))
+
+    back : OfKind kind (reading d) → kindOf (reading d) ≡ kind
+    back o = by (reading d) refl o
+      where
+        by : (r : Reading) → reading d ≡ r → OfKind kind r → kindOf r ≡ kind
+        by r e (transmitter t same) = sym same
+        by r e (signal s n type long) = ap (λ (t : ℕ). kindFor (loadOfSignal t n)) type ∙ omega arith
+
+-- what is carried, as the writer gives it, of that kind
+pub carried-says :
+    (c : List ℕ) (kind : ℕ)
+    → Bytes c
+    → kind < noKind
+    → (not (inWrittenForm c && eqb (kindOf (reading c)) kind) ≡ false) ↔ ((refusal c ≡ 0) × (writtenForm c ≡ c) × OfKind kind (reading c))
+carried-says c kind b byte =
+    negated _
+    (Iff·trans (both-then _ _ (written-form-exactly c b) (λ w. of-kind c kind (w .0) byte))
+    (λ x. (x .0 .0, x .0 .1, x .1), λ x. ((x .0, x .1), x .2)))
+
+-- ---- a PDU that the trunk carries, as the writer gives it
+
 pub record Carried (pdu : List ℕ) : Type 0 where
   pub bytes : Bytes pdu
   pub form : inWrittenForm pdu ≡ true
@@ -120,38 +177,32 @@ carried-length pdu c =
 
 -- ---- a record's parts read back
 
-pub length-record : (kind number : ℕ) (pdu : List ℕ) → length (recordOf kind number pdu) ≡ headSize + length pdu
-unfolding recordOf
-length-record kind number pdu =
-    length-append (fill headTable (kind ∷ number ∷ [])) pdu ∙ ap (λ (n : ℕ). n + length pdu) (length-fill headTable (kind ∷ number ∷ []))
+module _ (head : Head) (pdu : List ℕ) where
+  pub length-record : length (recordOf head pdu) ≡ headSize + length pdu
+  unfolding recordOf
+  length-record = length-append (headBytes head) pdu ∙ ap (λ (n : ℕ). n + length pdu) (length-fill headTable (headValues head))
 
-pub carried-in : (kind number : ℕ) (pdu : List ℕ) → carriedIn (recordOf kind number pdu) ≡ pdu
-unfolding recordOf
-carried-in kind number pdu =
-    drop-at (fill headTable (kind ∷ number ∷ [])) pdu headSize (length-fill headTable (kind ∷ number ∷ []))
+  pub carried-in : carriedIn (recordOf head pdu) ≡ pdu
+  unfolding recordOf
+  carried-in = drop-at (headBytes head) pdu headSize (length-fill headTable (headValues head))
 
-pub head-read : (kind number : ℕ) (pdu : List ℕ) → kind < 256 → number ≤ lastNumber → (kindIn (recordOf kind number pdu) ≡ kind) × (numberIn (recordOf kind number pdu) ≡ number)
-unfolding recordOf
-head-read kind number pdu k n =
-    let e = read-fill headTable [] pdu (kind ∷ number ∷ []) refl (k, (omega arith, refl)) in
-    (ap (λ (l : List ℕ). getD l 0 0) e, ap (λ (l : List ℕ). getD l 1 0) e)
+  pub head-read : Fit headTable (headValues head) → headAt 0 (recordOf head pdu) ≡ head
+  unfolding recordOf
+  head-read fit = ap headOf (read-fill headTable [] pdu (headValues head) refl fit)
 
-pub kind-in : (kind number : ℕ) (pdu : List ℕ) → kind < 256 → number ≤ lastNumber → kindIn (recordOf kind number pdu) ≡ kind
-kind-in kind number pdu k n = head-read kind number pdu k n .0
+  pub record-bytes : Bytes pdu → Bytes (recordOf head pdu)
+  unfolding recordOf
+  record-bytes b = bytes-append (headBytes head) pdu (bytes-fill headTable (headValues head)) b
 
-pub number-in : (kind number : ℕ) (pdu : List ℕ) → kind < 256 → number ≤ lastNumber → numberIn (recordOf kind number pdu) ≡ number
-number-in kind number pdu k n = head-read kind number pdu k n .1
-
-pub record-bytes : (kind number : ℕ) (pdu : List ℕ) → Bytes pdu → Bytes (recordOf kind number pdu)
-unfolding recordOf
-record-bytes kind number pdu b =
-    bytes-append (fill headTable (kind ∷ number ∷ [])) pdu (bytes-fill headTable (kind ∷ number ∷ [])) b
+-- a head of a kind and a number that fit
+pub head-fits : (kind number : ℕ) → kind < 256 → number ≤ lastNumber → Fit headTable (headValues (headFor kind number))
+head-fits kind number k n = (k, (omega arith, refl))
 
 -- ---- the rules on records
 
 -- the record of a carried PDU
 abbrev pub recordFor : ℕ → List ℕ → List ℕ
-recordFor number pdu = recordOf (kindOf (reading pdu)) number pdu
+recordFor number pdu = recordOf (headFor (kindOf (reading pdu)) number) pdu
 
 -- it breaks none of 20, 21, 29, 25 and 22
 pub record Sound (r : List ℕ) : Type 0 where
@@ -162,25 +213,28 @@ pub record Sound (r : List ℕ) : Type 0 where
   pub right : wrongCarried r ≡ false
 
 module _ (number : ℕ) (pdu : List ℕ) (c : Carried pdu) (h : number < lastNumber) where
+  pdu-head : headAt 0 (recordFor number pdu) ≡ headFor (kindOf (reading pdu)) number
+  pdu-head = head-read _ pdu (head-fits _ number (carried-kind pdu (c .kind) .byte) (omega arith))
+
   pub pdu-kind : kindIn (recordFor number pdu) ≡ kindOf (reading pdu)
-  pdu-kind = kind-in _ number pdu (carried-kind pdu (c .kind) .kind .byte) (omega arith)
+  pdu-kind = ap (λ (x : Head). x .kind) pdu-head
 
   pub pdu-number : numberIn (recordFor number pdu) ≡ number
-  pdu-number = number-in _ number pdu (carried-kind pdu (c .kind) .kind .byte) (omega arith)
+  pdu-number = ap (λ (x : Head). x .number) pdu-head
 
   pub pdu-length : length (recordFor number pdu) ≡ recordSize (kindOf (reading pdu))
-  pdu-length = length-record _ number pdu ∙ ap (λ (n : ℕ). headSize + n) (carried-length pdu c)
+  pdu-length = length-record _ pdu ∙ ap (λ (n : ℕ). headSize + n) (carried-length pdu c)
 
   pub pdu-sound : Sound (recordFor number pdu)
   unfolding unknownKind wrongSize isReply lastOfAll wrongCarried
   pdu-sound =
-      let k = carried-kind pdu (c .kind) .kind in
+      let k = carried-kind pdu (c .kind) in
       record {
         known = rw (pdu-kind, k .known, and-false);
         sized = rw pdu-kind (ap not (eq-eqb _ _ pdu-length));
-        no-reply = rw pdu-kind (ne-eqb _ _ (k .no-reply));
+        no-reply = rw (pdu-kind, k .no-reply);
         not-last = rw (pdu-number, ne-eqb number lastNumber (λ e. omega arith), and-false);
-        right = rw (pdu-kind, carried-in (kindOf (reading pdu)) number pdu, c .form, eq-eqb (kindOf (reading pdu)) _ refl, and-false);
+        right = rw (pdu-kind, carried-in (headFor (kindOf (reading pdu)) number) pdu, c .form, eq-eqb (kindOf (reading pdu)) _ refl, and-false);
       }
 
 -- a reply breaks neither 20 nor 21, and is a reply with its number
@@ -188,20 +242,23 @@ pub record SoundReply (r : List ℕ) (number : ℕ) : Type 0 where
   pub known : unknownKind r ≡ false
   pub sized : wrongSize r ≡ false
   pub reply : isReply r ≡ true
+  pub kind-is : kindIn r ≡ replyKind
   pub number-is : numberIn r ≡ number
 
 pub length-reply : (number : ℕ) → length (replyOf number) ≡ headSize
-length-reply number = length-record replyKind number []
+length-reply number = length-record (headFor replyKind number) []
 
 pub reply-sound : (number : ℕ) → number ≤ lastNumber → SoundReply (replyOf number) number
-unfolding unknownKind wrongSize isReply
+unfolding load unknownKind wrongSize isReply
 reply-sound number h =
-    let kind = kind-in replyKind number [] (omega arith) h in
+    let head = head-read (headFor replyKind number) [] (head-fits replyKind number (omega arith) h) in
+    let kind = ap (λ (x : Head). x .kind) head in
     record {
       known = rw (kind, and-false);
       sized = rw (kind, length-reply number);
       reply = rw kind;
-      number-is = number-in replyKind number [] (omega arith) h;
+      kind-is = kind;
+      number-is = ap (λ (x : Head). x .number) head;
     }
 
 -- a reply at the start of its buffer

@@ -13,41 +13,18 @@ use native.Mathlib.Omega.{arith}
 use borrow.Author.Tests.{ltb-true, ltb-false}
 use Rattle.station.specs.Units.{made}
 use Rattle.station.specs.declared.Station.{Station}
-use Rattle.trunk.specs.Kinds.{headSize}
-use Rattle.trunk.specs.Near.{rows, rowSize, sentOut, replied}
-use Rattle.trunk.specs.Far.{leastOutput, replyAfter}
-use Rattle.trunk.specs.Line.{send-made, Call, send, to-near, to-far, Line, start, step, run, accepted, putOut, acknowledged, written, writtenBy, Fair}
-use Rattle.trunk.specs.Demand.{recordAt, count}
+use Rattle.trunk.specs.Head.{headSize}
+use Rattle.trunk.specs.Kinds.{longestPdu}
+use Rattle.trunk.specs.Near.{rows, rowSize, sent, sentOut, replied}
+use Rattle.trunk.specs.Far.{replyAfter}
+use Rattle.trunk.specs.Line.{send-made, Call, send, to-near, to-far, Line, start, step, run, accepted, putOut, acknowledged, written}
+use Rattle.trunk.specs.Line.{writtenBy, Fair}
+use Rattle.trunk.specs.Demand.{count}
+use Rattle.trunk.specs.Retries.{round, afterRound, rounds, Through}
 use Rattle.trunk.specs.declared.Sent.{Sent}
 use Rattle.trunk.specs.declared.Sent.the-variants.{Size}
 use Rattle.trunk.proofs.Progress.{sent-next, replied-next, acknowledged-next}
 use Rattle.trunk.proofs.Demand3.{StandsAt, run-stands, start-stands}
-
--- one round: send the lowest number held, hand over its record, hand back the reply
-abbrev pub round : Line → List ℕ → List ℕ → List ℕ → List Call
-round l buffer reply out =
-    send (l .near .acknowledged) buffer
-    ∷ to-far (recordAt (l .log) (l .near .acknowledged)) reply out
-    ∷ to-near (take headSize (replyAfter (l .far) (recordAt (l .log) (l .near .acknowledged)) reply (length out)))
-    ∷ []
-
-abbrev pub afterRound : Line → List ℕ → List ℕ → List ℕ → Line
-afterRound l buffer reply out = run l (round l buffer reply out)
-
--- at most n rounds, as long as something is held
-unfoldable pub rounds : ℕ → Line → List ℕ → List ℕ → List ℕ → List Call
-rounds zero l buffer reply out = []
-rounds (suc n) l buffer reply out =
-    cond (ltb (l .near .acknowledged) (l .near .accepted))
-    (round l buffer reply out ++ rounds n (afterRound l buffer reply out) buffer reply out)
-    []
-
--- what such calls bring a line to: they are fair, nothing more is accepted, and everything accepted is acknowledged and put out
-pub record Through (l : Line) (calls : List Call) : Type 0 where
-  pub fair : Fair l calls
-  pub same : accepted (run l calls .log) ≡ accepted (l .log)
-  pub all-acknowledged : run l calls .near .acknowledged ≡ length (accepted (l .log))
-  pub all-put-out : putOut (run l calls .log) ≡ accepted (l .log)
 
 -- what one round brings it to
 record Further (l : Line) (calls : List Call) : Type 0 where
@@ -68,11 +45,15 @@ at-rest l s none =
       fair = tt;
       same = refl;
       all-acknowledged = omega (arith, c .near-accepted, c .near-acknowledged, c .acknowledged-put-out, c .put-out-accepted);
-      all-put-out = h .in-order ∙ take-all (count (l .log)) (accepted (l .log)) (omega (arith, c .near-accepted, c .near-acknowledged, c .acknowledged-put-out));
+      all-put-out =
+          h .in-order
+          ∙ take-all (count (l .log)) (accepted (l .log))
+          (omega (arith, c .near-accepted, c .near-acknowledged, c .acknowledged-put-out));
     }
 
-module _ (buffer reply out : List ℕ) (long : rowSize ≤ length buffer) (fits : headSize ≤ length reply) (room : leastOutput ≤ length out) where
+module _ (buffer reply out : List ℕ) (long : rowSize ≤ length buffer) (fits : headSize ≤ length reply) (room : longestPdu ≤ length out) where
   one-round : {station : Station} (l : Line) → StandsAt station l → l .near .acknowledged < l .near .accepted → Further l (round l buffer reply out)
+  unfolding sent
   one-round l s more =
       let h = s .holds in
       let c = h .counts in
@@ -87,13 +68,23 @@ module _ (buffer reply out : List ℕ) (long : rowSize ≤ length buffer) (fits 
       ∙ acknowledged-next h (answer .number) (omega (arith, answer .above)) (answer .accepted) in
       let sent-there = just-sent a (sentOut (l .near) (l .store) a buffer) (sending .0) (sending .1) in
       record {
-        fair = (tt, (Memᴰ·append-right (written (l .log)) sent-there, (Memᴰ·append-right (written (step l (send a buffer) .log)) (answer .written), tt)));
+        fair = (
+          tt,
+          (
+            Memᴰ·append-right (written (l .log)) sent-there,
+            (Memᴰ·append-right (written (step l (send a buffer) .log)) (answer .written), tt),
+          ),
+        );
         same = append-nil _ ∙ append-nil _ ∙ append-nil (accepted (l .log));
         further = omega (arith, acknowledging, answer .above);
       }
 
   -- a round, and what the rest brings the line to after it
-  round-then : (l : Line) (calls : List Call) → Further l (round l buffer reply out) → Through (afterRound l buffer reply out) calls → Through l (round l buffer reply out ++ calls)
+  round-then :
+      (l : Line) (calls : List Call)
+      → Further l (round l buffer reply out)
+      → Through (afterRound l buffer reply out) calls
+      → Through l (round l buffer reply out ++ calls)
   round-then l calls r t =
       record {
         fair = (r .fair .0, (r .fair .1 .0, (r .fair .1 .1 .0, t .fair)));
@@ -103,7 +94,11 @@ module _ (buffer reply out : List ℕ) (long : rowSize ≤ length buffer) (fits 
       }
 
   -- as many rounds as numbers are held
-  through : {station : Station} (n : ℕ) (l : Line) → StandsAt station l → l .near .accepted ≤ l .near .acknowledged + n → Through l (rounds n l buffer reply out)
+  through :
+      {station : Station} (n : ℕ) (l : Line)
+      → StandsAt station l
+      → l .near .accepted ≤ l .near .acknowledged + n
+      → Through l (rounds n l buffer reply out)
   unfolding rounds
   through zero l s few = at-rest l s (omega arith)
   through {station} (suc n) l s few = by (through n (afterRound l buffer reply out)) (ltb (l .near .acknowledged) (l .near .accepted)) refl
@@ -111,19 +106,30 @@ module _ (buffer reply out : List ℕ) (long : rowSize ≤ length buffer) (fits 
       l′ : Line
       l′ = afterRound l buffer reply out
 
-      by : (StandsAt station l′ → l′ .near .accepted ≤ l′ .near .acknowledged + n → Through l′ (rounds n l′ buffer reply out)) → (b : Bool) → ltb (l .near .acknowledged) (l .near .accepted) ≡ b → Through l (cond b (round l buffer reply out ++ rounds n l′ buffer reply out) [])
+      by :
+          (StandsAt station l′ → l′ .near .accepted ≤ l′ .near .acknowledged + n → Through l′ (rounds n l′ buffer reply out))
+          → (b : Bool)
+          → ltb (l .near .acknowledged) (l .near .accepted) ≡ b
+          → Through l (cond b (round l buffer reply out ++ rounds n l′ buffer reply out) [])
       by rest true e =
           let r = one-round l s (ltb-true _ _ e) in
           let s′ = run-stands l (round l buffer reply out) (r .fair) s in
-          let still : l′ .near .accepted ≡ l .near .accepted = s′ .holds .counts .near-accepted ∙ ap length (r .same) ∙ sym (s .holds .counts .near-accepted) in
+          let still : l′ .near .accepted ≡ l .near .accepted =
+          s′ .holds .counts .near-accepted ∙ ap length (r .same) ∙ sym (s .holds .counts .near-accepted) in
           round-then l (rounds n l′ buffer reply out) r (rest s′ (omega (arith, r .further, still)))
       by rest false e = at-rest l s (ltb-false _ _ e)
 
 -- From every line that a fair list reached, with lent buffers of any content that have room, eight rounds at most leave nothing unacknowledged.
-pub retries : (level net : ℕ) (store : List ℕ) (calls : List Call) → Fair (start (made level net .station) store) calls → (buffer reply out : List ℕ) → rowSize ≤ length buffer → headSize ≤ length reply → leastOutput ≤ length out → Through (run (start (made level net .station) store) calls) (rounds rows (run (start (made level net .station) store) calls) buffer reply out)
+pub retries :
+    (level net : ℕ) (store : List ℕ) (calls : List Call)
+    → Fair (start level net store) calls
+    → (buffer reply out : List ℕ)
+    → rowSize ≤ length buffer
+    → headSize ≤ length reply
+    → longestPdu ≤ length out
+    → Through (run (start level net store) calls) (rounds rows (run (start level net store) calls) buffer reply out)
 retries level net store calls fair buffer reply out long fits room =
-    let station : Station = made level net .station in
-    let s = run-stands (start station store) calls fair (start-stands station store) in
+    let s = run-stands (start level net store) calls fair (start-stands level net store) in
     let c = s .holds .counts in
-    through buffer reply out long fits room rows (run (start station store) calls) s
+    through buffer reply out long fits room rows (run (start level net store) calls) s
     (omega (arith, c .near-accepted, c .near-acknowledged, c .window))

@@ -37,7 +37,11 @@ part-of o n l h = sym (ap (drop o) (take-add o n l) ∙ drop-at (take o l) (take
 abbrev pub RowHolds : List ℕ → ℕ → List ℕ → Type 0
 RowHolds store i bytes = take (length bytes) (drop (rowStart i) store) ≡ bytes
 
-pub row-written : (store : List ℕ) (i : ℕ) (bytes : List ℕ) → length store ≡ storeSize → length bytes ≤ rowSize → RowHolds (splice (rowStart i) bytes store) i bytes
+pub row-written :
+    (store : List ℕ) (i : ℕ) (bytes : List ℕ)
+    → length store ≡ storeSize
+    → length bytes ≤ rowSize
+    → RowHolds (splice (rowStart i) bytes store) i bytes
 row-written store i bytes whole fits =
     let at : ℕ = rowStart i in
     let inside : at + length bytes ≤ length store = omega arith in
@@ -46,7 +50,14 @@ row-written store i bytes whole fits =
     ∙ ap (take (length bytes)) (drop-at (take at store) (bytes ++ drop (at + length bytes) store) at (length-take-le at store (omega arith)))
     ∙ take-at bytes (drop (at + length bytes) store) (length bytes) refl
 
-pub row-kept : (store : List ℕ) (i j : ℕ) (bytes kept : List ℕ) → length store ≡ storeSize → length bytes ≤ rowSize → length kept ≤ rowSize → i % rows ≢ j % rows → RowHolds store i kept → RowHolds (splice (rowStart j) bytes store) i kept
+pub row-kept :
+    (store : List ℕ) (i j : ℕ) (bytes kept : List ℕ)
+    → length store ≡ storeSize
+    → length bytes ≤ rowSize
+    → length kept ≤ rowSize
+    → i % rows ≢ j % rows
+    → RowHolds store i kept
+    → RowHolds (splice (rowStart j) bytes store) i kept
 row-kept store i j bytes kept whole fits small other holds = by (ltb (i % rows) (j % rows)) refl
   where
     by : (b : Bool) → ltb (i % rows) (j % rows) ≡ b → RowHolds (splice (rowStart j) bytes store) i kept

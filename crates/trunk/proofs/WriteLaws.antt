@@ -3,18 +3,17 @@
 -- Assumes nothing.
 use Prim.Native.Nat.{ℕ, _+_, _≤_}
 use mathlib.Core.Path.{_≡_, refl, sym, ap, subst, _∙_}
-use mathlib.Core.Bool.{Bool, true, false, cond}
-use mathlib.Core.List.{List, [], _++_, append-assoc}
-use lib.ListN.{length, take, drop, length-append, length-drop, take-append-drop}
+use mathlib.Core.Logic.{_≢_}
+use mathlib.Core.List.{List, _++_, append-assoc}
+use lib.ListN.{length, take, drop, length-drop, take-append-drop}
 use lib.Seq.{sets-eq, drop-drop, length-take-le, drop-append-le}
-use lib.Dec.{eqb}
 use native.Mathlib.Omega.{arith}
-use borrow.Author.Tests.{eq-eqb, eqb-true}
-use Rattle.wire.specs.Bytes.{splice, big}
+use borrow.Author.Tests.{eq-eqb}
+use Rattle.wire.specs.Bytes.{splice}
 use Rattle.wire.specs.First.{first}
 use Rattle.wire.proofs.ByteLaws.{splice-start, splice-append}
+use Rattle.pdu.specs.Numbers.{transmitterSize}
 use Rattle.pdu.specs.Records.{signalSize}
-use Rattle.pdu.specs.Words.{wordsIn}
 use Rattle.pdu.specs.Reading.{reading, bodyOf}
 use Rattle.pdu.specs.Writing.{writtenForm, transmitterWriting, transmitterBytes, signalWriting, signalBytes, left}
 use Rattle.pdu.specs.declared.Transmitter.{Transmitter}
@@ -23,11 +22,18 @@ use Rattle.pdu.specs.declared.Reading.{Reading}
 use Rattle.pdu.proofs.Carried.{writes-transmitter, writes-signal, body-there, taken-words}
 use Rattle.pdu.proofs.RoundTrip.{transmitter-form, signal-form, length-transmitter}
 use Rattle.pdu.proofs.WritingLaws.{length-signal}
-use Rattle.trunk.specs.Kinds.{kindOf, kindOfWords, noKind}
+use Rattle.trunk.specs.Head.{headSize, headBytes}
+use Rattle.trunk.specs.Kinds.{kindOf, noKind, longestPdu, longestRecord}
 use Rattle.trunk.specs.Record.{recordOf}
+use Rattle.trunk.specs.declared.Head.{Head}
+use Rattle.trunk.proofs.RecordLaws.{carried-type, length-record}
 
 -- a lent part that was spliced from its start, back in the whole
-pub part-splice : (a k : ℕ) (b xs : List ℕ) → a + k ≤ length xs → length b ≤ k → take a xs ++ (splice 0 b (take k (drop a xs)) ++ drop k (drop a xs)) ≡ splice a b xs
+pub part-splice :
+    (a k : ℕ) (b xs : List ℕ)
+    → a + k ≤ length xs
+    → length b ≤ k
+    → take a xs ++ (splice 0 b (take k (drop a xs)) ++ drop k (drop a xs)) ≡ splice a b xs
 part-splice a k b xs fits room =
     let part : List ℕ = take k (drop a xs) in
     let long : length part ≡ k = length-take-le k (drop a xs) (rw (length-drop a xs) (omega arith)) in
@@ -40,29 +46,23 @@ part-splice a k b xs fits room =
     ∙ sym (append-assoc (take a xs) b (drop (a + length b) xs))
     ∙ sym (sets-eq b xs a (omega arith))
 
--- a Signal that the trunk carries is of type 0
-pub carried-type : (type n : ℕ) → (kindOfWords type n ≡ noKind → ⊥) → type ≡ 0
-carried-type type n h = go (eqb type 0) refl
-  where
-    go : (b : Bool) → eqb type 0 ≡ b → type ≡ 0
-    go true e = eqb-true type 0 e
-    go false e = elim (h (ap (λ (b : Bool). cond b (wordsIn n) noKind) e)) [ ]
+-- ---- what the writer leaves of what was read
 
--- what the writer leaves of a Transmitter that was read
-pub writes-read-transmitter : (d : List ℕ) (t : Transmitter) (out : List ℕ) → reading d ≡ Reading.Transmitter t → 112 ≤ length out → left (first (transmitterWriting t (length out))) (transmitterBytes t) out ≡ splice 0 (writtenForm d) out
+pub writes-read-transmitter :
+    (d : List ℕ) (t : Transmitter) (out : List ℕ)
+    → reading d ≡ Reading.Transmitter t
+    → transmitterSize ≤ length out
+    → left (first (transmitterWriting t (length out))) (transmitterBytes t) out ≡ splice 0 (writtenForm d) out
 writes-read-transmitter d t out e fits =
     rw (eq-eqb (first (transmitterWriting t (length out))) 0 (writes-transmitter d t (length out) e fits))
     (sym (splice-start (transmitterBytes t) out (omega (arith, length-transmitter t)))
     ∙ ap (λ (b : List ℕ). splice 0 b out) (sym (transmitter-form d t e)))
 
--- a carried Signal's size
-pub carried-size : (d : List ℕ) (s : Signal) (n : ℕ) → reading d ≡ Reading.Signal s n → (kindOf (reading d) ≡ noKind → ⊥) → signalSize n ≤ 180
-carried-size d s n e h =
-    let w = taken-words d s n e (carried-type (s .network .«message_type») n (λ z. h (ap kindOf e ∙ z))) in
-    omega (arith, w .0, w .1)
-
--- what the writer leaves of a Signal that was read
-pub writes-read-signal : (d : List ℕ) (s : Signal) (n : ℕ) (out : List ℕ) → reading d ≡ Reading.Signal s n → signalSize n ≤ length out → left (first (signalWriting s (length (bodyOf d)) (length out))) (signalBytes s (bodyOf d)) out ≡ splice 0 (writtenForm d) out
+pub writes-read-signal :
+    (d : List ℕ) (s : Signal) (n : ℕ) (out : List ℕ)
+    → reading d ≡ Reading.Signal s n
+    → signalSize n ≤ length out
+    → left (first (signalWriting s (length (bodyOf d)) (length out))) (signalBytes s (bodyOf d)) out ≡ splice 0 (writtenForm d) out
 writes-read-signal d s n out e fits =
     let size : length (bodyOf d) ≡ n = body-there d s n e .2 in
     let taken : first (signalWriting s (length (bodyOf d)) (length out)) ≡ 0 =
@@ -72,24 +72,39 @@ writes-read-signal d s n out e fits =
     (sym (splice-start (signalBytes s (bodyOf d)) out (rw long fits))
     ∙ ap (λ (b : List ℕ). splice 0 b out) (sym (signal-form d s n e)))
 
--- the written form of what the trunk carries is at most 180 bytes
-pub carried-short : (d : List ℕ) → (kindOf (reading d) ≡ noKind → ⊥) → length (writtenForm d) ≤ 180
+-- ---- how long it is
+
+-- a carried Signal's size
+pub carried-size :
+    (d : List ℕ) (s : Signal) (n : ℕ)
+    → reading d ≡ Reading.Signal s n
+    → kindOf (reading d) ≢ noKind
+    → signalSize n ≤ longestPdu
+carried-size d s n e h =
+    let w = taken-words d s n e (carried-type (s .network .«message_type») n (λ z. h (ap kindOf e ∙ z))) in
+    omega (arith, w .0, w .1)
+
+-- the written form of what the trunk carries is no longer than the longest PDU
+pub carried-short : (d : List ℕ) → kindOf (reading d) ≢ noKind → length (writtenForm d) ≤ longestPdu
 carried-short d h = go (reading d) refl
   where
-    go : (r : Reading) → reading d ≡ r → length (writtenForm d) ≤ 180
-    go (Reading.Refused n) e = elim (h (ap kindOf e)) [ ]
+    go : (r : Reading) → reading d ≡ r → length (writtenForm d) ≤ longestPdu
+    go (Reading.Refused n) e = absurd (h (ap kindOf e))
     go (Reading.Transmitter t) e = omega (arith, ap length (transmitter-form d t e), length-transmitter t)
     go (Reading.Signal s n) e =
         let size : length (writtenForm d) ≡ signalSize n =
         ap length (signal-form d s n e) ∙ length-signal s (bodyOf d) ∙ ap signalSize (body-there d s n e .2) in
         rw size (carried-size d s n e h)
 
--- head and PDU, spliced one behind the other, are the record
-pub record-splice : (kind number : ℕ) (pdu row : List ℕ) → splice 5 pdu (splice 1 (big 4 number) (splice 0 (big 1 kind) row)) ≡ splice 0 (recordOf kind number pdu) row
-unfolding recordOf
-record-splice kind number pdu row = splice-append 0 (big 1 kind ++ (big 4 number ++ [])) pdu row
+-- ---- the record
 
--- a carried datagram's record fits a row
-pub record-short : (kind number : ℕ) (d : List ℕ) → (kindOf (reading d) ≡ noKind → ⊥) → length (recordOf kind number (writtenForm d)) ≤ 185
+-- head and PDU, spliced one behind the other, are the record
+pub record-splice :
+    (head : Head) (pdu row : List ℕ)
+    → splice headSize pdu (splice 0 (headBytes head) row) ≡ splice 0 (recordOf head pdu) row
 unfolding recordOf
-record-short kind number d h = rw (length-append (big 1 kind ++ (big 4 number ++ [])) (writtenForm d)) (omega (arith, carried-short d h))
+record-splice head pdu row = splice-append 0 (headBytes head) pdu row
+
+-- a carried datagram's record is no longer than the longest record
+pub record-short : (head : Head) (d : List ℕ) → kindOf (reading d) ≢ noKind → length (recordOf head (writtenForm d)) ≤ longestRecord
+record-short head d h = rw (length-record head (writtenForm d)) (omega (arith, carried-short d h))

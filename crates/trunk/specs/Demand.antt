@@ -6,11 +6,12 @@ use lib.ListN.{length, getD, take}
 use Rattle.pdu.specs.Reading.{reading}
 use Rattle.station.specs.Runs.{after, answers}
 use Rattle.station.specs.declared.Station.{Station}
-use Rattle.trunk.specs.Kinds.{kindOf, headSize}
-use Rattle.trunk.specs.Record.{recordOf, replyOf}
-use Rattle.trunk.specs.Near.{rows}
-use Rattle.trunk.specs.Far.{leastOutput, replyAfter}
-use Rattle.trunk.specs.Line.{Entry, offer-made, send-made, reply-heard, record-heard, clock-set, Call, to-near, to-far, Line, run, accepted, putOut, acknowledged, events, stationSaid, Fair}
+use Rattle.trunk.specs.Head.{headSize}
+use Rattle.trunk.specs.Kinds.{kindOf}
+use Rattle.trunk.specs.Record.{headFor, recordOf, replyOf}
+use Rattle.trunk.specs.Far.{replyAfter}
+use Rattle.trunk.specs.Line.{Entry, offer-made, send-made, reply-heard, record-heard, clock-set, Call, to-near, to-far, Line, run, accepted}
+use Rattle.trunk.specs.Line.{putOut, acknowledged, events, stationSaid, Fair}
 use Rattle.trunk.specs.declared.Offer.the-variants.{Refused as offerRefused, Taken}
 use Rattle.trunk.specs.declared.Sent.the-variants.{Refused as sendRefused, Size}
 use Rattle.trunk.specs.declared.Reply.the-variants.{Refused as replyRefused, Acknowledged}
@@ -21,7 +22,7 @@ abbrev pub pduAt : List Entry → ℕ → List ℕ
 pduAt log i = getD (accepted log) i []
 
 abbrev pub recordAt : List Entry → ℕ → List ℕ
-recordAt log i = recordOf (kindOf (reading (pduAt log i))) i (pduAt log i)
+recordAt log i = recordOf (headFor (kindOf (reading (pduAt log i))) i) (pduAt log i)
 
 -- k: "k counts them", the PDUs put out
 abbrev pub count : List Entry → ℕ
@@ -56,37 +57,35 @@ abbrev pub AllSay : List Entry → Type 0
 AllSay [] = Unit {0}
 AllSay (e ∷ log) = Says e log × AllSay log
 
--- what demand 3 claims of a line whose far end started with this station
+-- what demand 3 claims of a line whose far end started with this station: its sentences, one by one
 pub record Demand3 (station : Station) (l : Line) : Type 0 where
-  -- what the far end put out is the first k PDUs accepted, each once, in order
+  -- "what the far end put out is the first k PDUs accepted, each once, in order"
   pub in-order : putOut (l .log) ≡ take (count (l .log)) (accepted (l .log))
-  -- acknowledged is at most k
+  -- "its station stands .. as a fresh one given those PDUs and clock calls": "fields .. and places .. are the same"
+  pub station-stands : l .far .station ≡ after station (events (l .log))
+  -- "and has answered as a fresh one": "answers .. are the same"
+  pub station-answered : stationSaid (l .log) ≡ answers station (events (l .log))
+  -- "acknowledged ≤ k ≤ accepted ≤ acknowledged + 8"
   pub acknowledged-put-out : acknowledged (l .log) ≤ count (l .log)
-  -- k is at most the number accepted
   pub put-out-accepted : count (l .log) ≤ length (accepted (l .log))
-  -- no more than eight are accepted and not acknowledged
-  pub window : length (accepted (l .log)) ≤ acknowledged (l .log) + rows
-  -- the ends' own counts are these
+  pub window : length (accepted (l .log)) ≤ acknowledged (l .log) + 8
+  -- "The ends' own counts .. are these"
   pub near-accepted : l .near .accepted ≡ length (accepted (l .log))
   pub near-acknowledged : l .near .acknowledged ≡ acknowledged (l .log)
   pub far-count : l .far .count ≡ count (l .log)
-  -- the far station stands as a fresh one given the PDUs put out and the clock calls, in their order
-  pub station-stands : l .far .station ≡ after station (events (l .log))
-  -- and it has answered as that one
-  pub station-answered : stationSaid (l .log) ≡ answers station (events (l .log))
-  -- the numbers in answers, sizes, sent records and written replies are these too
+  -- ".. and those in answers and written replies, are these. A send of i, unless refused, writes record i: kind, i, PDU i"
   pub all-say : AllSay (l .log)
-  -- if k is below accepted, record k handed over with room, and its reply next, make the acknowledged count k + 1
+  -- "and handing over record k and its reply makes acknowledged k + 1": where k is below accepted, with room in the lent buffers
   pub next :
       count (l .log) < length (accepted (l .log))
       → (reply out : List ℕ)
-      → headSize ≤ length reply
-      → leastOutput ≤ length out
+      → 5 ≤ length reply
+      → 180 ≤ length out
       → run l (handover l reply out) .near .acknowledged ≡ count (l .log) + 1
   -- and both were written by calls, so that handing them over goes on with a fair list
   pub next-fair :
       count (l .log) < length (accepted (l .log))
       → (reply out : List ℕ)
-      → headSize ≤ length reply
-      → leastOutput ≤ length out
+      → 5 ≤ length reply
+      → 180 ≤ length out
       → Fair l (handover l reply out)

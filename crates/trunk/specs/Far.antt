@@ -1,16 +1,20 @@
 -- The far end: a record's arrival and the clock (01, "The trunk").
 use Prim.Native.Nat.{ℕ, _+_}
+use mathlib.Core.Path.{_≡_}
 use mathlib.Core.Bool.{Bool, cond, _||_}
 use mathlib.Core.List.{List, [], _∷_, _++_}
 use lib.ListN.{length, drop}
 use lib.Dec.{eqb, ltb}
-use Rattle.wire.specs.First.{Refusal, _given-when_, first}
+use Rattle.wire.specs.First.{Refusal, _given-when_, first, told}
+use Rattle.station.specs.Units.{made}
 use Rattle.station.specs.Hearing.{heard}
 use Rattle.station.specs.Clock.{clocked}
 use Rattle.station.specs.declared.Station.{Station}
-use Rattle.trunk.specs.Kinds.{headSize}
-use Rattle.trunk.specs.Record.{replyOf, numberIn, carriedIn, unknownKind, wrongSize, isReply, lastOfAll, wrongCarried}
+use Rattle.trunk.specs.Head.{headSize}
+use Rattle.trunk.specs.Kinds.{longestPdu}
+use Rattle.trunk.specs.Record.{replyOf, numberIn, carriedIn, isReply, formRules, pduRules}
 use Rattle.trunk.specs.declared.Far.{Far}
+use Rattle.trunk.specs.declared.MadeFar.{MadeFar}
 use Rattle.trunk.specs.declared.Arrival.{Arrival}
 use Rattle.trunk.specs.declared.Arrival.the-variants.{Refused, Delivered, Repeat, Early}
 use Rattle.trunk.specs.declared.Arrived.{Arrived}
@@ -20,24 +24,23 @@ use Rattle.trunk.specs.declared.Ticked.{Ticked}
 abbrev pub freshFar : Station → Far
 freshFar s = record { count = 0; station = s }
 
--- the least output: the longest PDU that the trunk carries ("the output under 180")
-abbrev pub leastOutput : ℕ
-leastOutput = 180
+-- what the far end's maker answers: the fresh far end with the station that the station's maker gives, 37 passed on
+abbrev pub madeFar : ℕ → ℕ → MadeFar
+madeFar level net = record { far = freshFar (made level net .station); answer = made level net .answer }
 
 -- "16 if the reply buffer is under 5 bytes or the output under 180"
 abbrev pub noRoom : ℕ → ℕ → Bool
-noRoom replyRoom room = ltb replyRoom headSize || ltb room leastOutput
+noRoom replyRoom room = ltb replyRoom headSize || ltb room longestPdu
 
--- "On a record: 20, 21, 29, 25, 22, then 16"
+abbrev pub roomRules : ℕ → ℕ → List Refusal
+roomRules replyRoom room = (16 given-when noRoom replyRoom room) ∷ []
+
+-- "On a record: 20, 21, 29, 25, 22, then 16"; and those behind the form
+abbrev pub arrivalRest : List ℕ → ℕ → ℕ → List Refusal
+arrivalRest r replyRoom room = (29 given-when isReply r) ∷ (pduRules r ++ roomRules replyRoom room)
+
 unfoldable pub arrivalRules : List ℕ → ℕ → ℕ → List Refusal
-arrivalRules r replyRoom room =
-    (20 given-when unknownKind r)
-    ∷ (21 given-when wrongSize r)
-    ∷ (29 given-when isReply r)
-    ∷ (25 given-when lastOfAll r)
-    ∷ (22 given-when wrongCarried r)
-    ∷ (16 given-when noRoom replyRoom room)
-    ∷ []
+arrivalRules r replyRoom room = formRules r ++ arrivalRest r replyRoom room
 
 -- "Number k": whether a record with this number is the next
 unfoldable pub isNext : ℕ → ℕ → Bool
@@ -82,14 +85,6 @@ outputAfter far r replyRoom out =
     (cond (isNext (far .count) (numberIn r)) (carriedIn r ++ drop (length (carriedIn r)) out) out)
     out
 
--- the far end's clock call: its station's
-unfoldable pub ticked : Far → ℕ → Ticked
-ticked far t =
-    record {
-      far = record { count = far .count; station = clocked (far .station) t .station };
-      answer = clocked (far .station) t .answer;
-    }
-
 -- document 01's number and values of each answer: "delivered (with PDU size and station's answer), repeat or early", which have none
 abbrev pub arrivalSays : Arrival → List ℕ
 arrivalSays (Refused n) = n ∷ []
@@ -103,3 +98,18 @@ valuesOf far r =
     cond (isNext (far .count) (numberIn r))
     (length (carriedIn r) ∷ heard (far .station) (carriedIn r) .answer ∷ [])
     []
+
+-- the whole outcome of an arrival: its answer with the far end after it, the reply buffer and the output after it
+pub record ArrivalGives (far : Far) (r reply out : List ℕ) (a : Arrived) (reply′ out′ : List ℕ) : Type 0 where
+  pub answer : a ≡ arrived far r (length reply) (length out)
+  pub says : arrivalSays (a .answer) ≡ told (first (arrivalRules r (length reply) (length out))) (valuesOf far r)
+  pub reply-is : reply′ ≡ replyAfter far r reply (length out)
+  pub output : out′ ≡ outputAfter far r (length reply) out
+
+-- the far end's clock call: its station's
+unfoldable pub ticked : Far → ℕ → Ticked
+ticked far t =
+    record {
+      far = record { count = far .count; station = clocked (far .station) t .station };
+      answer = clocked (far .station) t .answer;
+    }

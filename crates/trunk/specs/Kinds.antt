@@ -1,64 +1,111 @@
--- The kinds of record (01, "The trunk"): one table of what each carries and the length that it fixes.
-use Prim.Native.Nat.{ℕ, _+_, _*_}
-use mathlib.Core.Bool.{Bool, true, false, cond}
+-- The kinds of record (01, "The trunk"): one table of rows, from which what a record carries, its length, whether its kind is known, and the
+-- kind under which a PDU is offered follow.
+use Prim.Native.Nat.{ℕ, _+_, _-_, _*_}
+use mathlib.Core.Bool.{Bool, true, false, cond, _&&_}
+use mathlib.Core.List.{List, [], _∷_}
 use lib.Dec.{eqb, leb}
 use Rattle.pdu.specs.Numbers.{transmitterSize, bodyHeader, wordBytes, mostWords}
 use Rattle.pdu.specs.Records.{signalSize}
 use Rattle.pdu.specs.Words.{wordsIn}
 use Rattle.pdu.specs.declared.Reading.{Reading}
-use Rattle.pdu.specs.declared.Reading.the-variants.{Refused, Transmitter, Signal}
+use Rattle.pdu.specs.declared.Reading.the-variants.{Refused, Transmitter as aTransmitter, Signal as aSignal}
+use Rattle.trunk.specs.Head.{headSize}
+use Rattle.trunk.specs.declared.Load.{Load}
+use Rattle.trunk.specs.declared.Load.the-variants.{Words, Transmitter, Nothing, Unknown}
 
--- what a record carries behind its head: a type 0 Signal of so many words, a Transmitter, nothing, or it is of no known kind
-pub data Load : Type 0 where
-  words : ℕ → Load
-  transmitter : Load
-  nothing : Load
-  unknown : Load
+-- ---- the table
 
--- the kinds of a Transmitter and of a reply; and a number that is no kind
-abbrev pub transmitterKind : ℕ
-transmitterKind = 16
+-- a row: its first and last kind, and what a kind of it carries, by its place in the row
+pub record KindRow : Type 0 where
+  pub first : ℕ
+  pub last : ℕ
+  pub load : ℕ → Load
 
-abbrev pub replyKind : ℕ
-replyKind = 32
+-- "Kind n from 0 to 12: a type 0 Signal of n words"
+abbrev pub signals : KindRow
+signals = record { first = 0; last = mostWords; load = Words }
 
-abbrev pub noKind : ℕ
-noKind = 256
+-- "Kind 16: a Transmitter"
+abbrev pub transmitters : KindRow
+transmitters = record { first = 16; last = 16; load = λ n. Transmitter }
 
--- "Kind n from 0 to 12: a type 0 Signal of n words. Kind 16: a Transmitter. Kind 32: a reply, the number alone"
-abbrev pub load : ℕ → Load
-load kind =
-    cond (leb kind mostWords) (words kind)
-    (cond (eqb kind transmitterKind) transmitter (cond (eqb kind replyKind) nothing unknown))
+-- "Kind 32: a reply, the number alone"
+abbrev pub replies : KindRow
+replies = record { first = 32; last = 32; load = λ n. Nothing }
+
+abbrev pub kinds : List KindRow
+kinds = signals ∷ transmitters ∷ replies ∷ []
+
+-- ---- what a kind carries
+
+-- whether a kind is in a row
+abbrev pub inRow : KindRow → ℕ → Bool
+inRow row kind = leb (row .first) kind && leb kind (row .last)
+
+-- what it carries by the first row that it is in
+abbrev pub loadIn : List KindRow → ℕ → Load
+loadIn [] kind = Unknown
+loadIn (row ∷ rest) kind = cond (inRow row kind) (row .load (kind - row .first)) (loadIn rest kind)
+
+unfoldable pub load : ℕ → Load
+load kind = loadIn kinds kind
 
 -- how many bytes a load takes
 abbrev pub loadSize : Load → ℕ
-loadSize (words n) = signalSize (bodyHeader + wordBytes * n)
-loadSize transmitter = transmitterSize
-loadSize nothing = 0
-loadSize unknown = 0
+loadSize (Words n) = signalSize (bodyHeader + wordBytes * n)
+loadSize Transmitter = transmitterSize
+loadSize Nothing = 0
+loadSize Unknown = 0
 
--- one byte of kind and a 4-byte number
-abbrev pub headSize : ℕ
-headSize = 5
+-- the longest PDU that the trunk carries: one of 12 words
+abbrev pub longestPdu : ℕ
+longestPdu = 180
 
--- the length of a record of this kind
+-- the length of a record of this kind, and that of the longest record
 abbrev pub recordSize : ℕ → ℕ
 recordSize kind = headSize + loadSize (load kind)
 
--- whether a kind is one that the table lacks
+abbrev pub longestRecord : ℕ
+longestRecord = headSize + longestPdu
+
+-- whether the table lacks a kind, and whether a record of it is a reply
 abbrev pub isUnknown : Load → Bool
-isUnknown (words n) = false
-isUnknown transmitter = false
-isUnknown nothing = false
-isUnknown unknown = true
+isUnknown (Words n) = false
+isUnknown Transmitter = false
+isUnknown Nothing = false
+isUnknown Unknown = true
 
--- the kind that carries a Signal of this message type with a body of n bytes, or none
-abbrev pub kindOfWords : ℕ → ℕ → ℕ
-kindOfWords type n = cond (eqb type 0) (wordsIn n) noKind
+abbrev pub isNothing : Load → Bool
+isNothing (Words n) = false
+isNothing Transmitter = false
+isNothing Nothing = true
+isNothing Unknown = false
 
--- the kind that carries what reading answered, or none: types 1 to 7 are not carried
+-- ---- the kind of what is carried
+
+-- a number that is no kind
+abbrev pub noKind : ℕ
+noKind = 256
+
+-- the kind of a load: that of its row, or none
+abbrev pub kindFor : Load → ℕ
+kindFor (Words n) = signals .first + n
+kindFor Transmitter = transmitters .first
+kindFor Nothing = replies .first
+kindFor Unknown = noKind
+
+abbrev pub replyKind : ℕ
+replyKind = kindFor Nothing
+
+-- what carries a Signal of this message type with a body of n bytes: types 1 to 7 are not carried
+abbrev pub loadOfSignal : ℕ → ℕ → Load
+loadOfSignal type n = cond (eqb type 0) (Words (wordsIn n)) Unknown
+
+-- what carries what reading answered, and its kind
+abbrev pub loadOf : Reading → Load
+loadOf (Refused n) = Unknown
+loadOf (aTransmitter t) = Transmitter
+loadOf (aSignal s n) = loadOfSignal (s .network .«message_type») n
+
 abbrev pub kindOf : Reading → ℕ
-kindOf (Refused n) = noKind
-kindOf (Transmitter t) = transmitterKind
-kindOf (Signal s n) = kindOfWords (s .network .«message_type») n
+kindOf answer = kindFor (loadOf answer)

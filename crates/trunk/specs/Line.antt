@@ -7,11 +7,11 @@ use Rattle.wire.specs.Bytes.{Bytes}
 use Rattle.pdu.specs.Reading.{reading}
 use Rattle.pdu.specs.Writing.{writtenForm}
 use Rattle.station.specs.Runs.{Call as StationCall, datagram, time}
-use Rattle.station.specs.declared.Station.{Station}
-use Rattle.trunk.specs.Kinds.{headSize, kindOf}
-use Rattle.trunk.specs.Record.{recordOf, numberIn}
+use Rattle.trunk.specs.Head.{headSize}
+use Rattle.trunk.specs.Kinds.{kindOf}
+use Rattle.trunk.specs.Record.{headFor, recordOf, numberIn}
 use Rattle.trunk.specs.Near.{freshNear, offered, storeAfter, sent, sentOut, replied}
-use Rattle.trunk.specs.Far.{freshFar, arrived, replyAfter, outputAfter, ticked}
+use Rattle.trunk.specs.Far.{madeFar, arrived, replyAfter, outputAfter, ticked}
 use Rattle.trunk.specs.declared.Near.{Near}
 use Rattle.trunk.specs.declared.Far.{Far}
 use Rattle.trunk.specs.declared.Offer.{Offer}
@@ -51,9 +51,9 @@ pub record Line : Type 0 where
   pub far : Far
   pub log : List Entry
 
--- "The list starts from a fresh near end, any store, and a fresh far end" with this station
-abbrev pub start : Station → List ℕ → Line
-start station store = record { near = freshNear; store = store; far = freshFar station; log = [] }
+-- "The list starts from a fresh near end, any store, and a fresh far end, its station of any settings": what the makers give
+abbrev pub start : ℕ → ℕ → List ℕ → Line
+start level net store = record { near = freshNear; store = store; far = madeFar level net .far; log = [] }
 
 -- one call
 abbrev pub step : Line → Call → Line
@@ -66,10 +66,10 @@ step l (offer d) =
     }
 step l (send i out) =
     record {
-      near = l .near;
+      near = sent (l .near) (l .store) i (length out) .near;
       store = l .store;
       far = l .far;
-      log = send-made i (sent (l .near) (l .store) i (length out)) (sentOut (l .near) (l .store) i out) ∷ l .log;
+      log = send-made i (sent (l .near) (l .store) i (length out) .answer) (sentOut (l .near) (l .store) i out) ∷ l .log;
     }
 step l (to-near r) =
     record {
@@ -137,7 +137,7 @@ putOut log = collect putOutBy log
 -- the records that calls wrote: an offer's, into its row of the store; a send's, by the size answered; and an arrival's reply
 abbrev pub writtenBy : Entry → List (List ℕ)
 writtenBy (offer-made d (offerRefused n)) = []
-writtenBy (offer-made d (Taken i)) = recordOf (kindOf (reading d)) i (writtenForm d) ∷ []
+writtenBy (offer-made d (Taken i)) = recordOf (headFor (kindOf (reading d)) i) (writtenForm d) ∷ []
 writtenBy (send-made i (sendRefused n) out) = []
 writtenBy (send-made i (Size n) out) = take n out ∷ []
 writtenBy (reply-heard r a) = []

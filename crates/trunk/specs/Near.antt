@@ -1,22 +1,24 @@
 -- The near end: offering, sending and taking a reply (01, "The trunk").
 use Prim.Native.Nat.{ℕ, _+_, _-_, _*_, _%_}
+use mathlib.Core.Path.{_≡_}
 use mathlib.Core.Bool.{Bool, cond, not, _&&_}
 use mathlib.Core.List.{List, [], _∷_, _++_}
 use lib.ListN.{length, take, drop}
 use lib.Dec.{eqb, leb, ltb}
-use Rattle.wire.specs.Bytes.{num, splice}
-use Rattle.wire.specs.First.{Refusal, _given-when_, first}
+use Rattle.wire.specs.Bytes.{splice}
+use Rattle.wire.specs.First.{Refusal, _given-when_, first, told}
 use Rattle.pdu.specs.Reading.{reading, numberOf}
 use Rattle.pdu.specs.Writing.{writtenForm}
-use Rattle.pdu.specs.declared.Reading.{Reading}
-use Rattle.trunk.specs.Kinds.{kindOf, noKind, load, isUnknown, recordSize, replyKind}
-use Rattle.trunk.specs.Record.{recordOf, numberIn, lastNumber, unknownKind, wrongSize, isReply}
+use Rattle.trunk.specs.Head.{headAt}
+use Rattle.trunk.specs.Kinds.{kindOf, noKind, load, isUnknown, isNothing, recordSize}
+use Rattle.trunk.specs.Record.{headFor, recordOf, numberIn, lastNumber, isReply, formRules}
 use Rattle.trunk.specs.declared.Near.{Near}
 use Rattle.trunk.specs.declared.Offer.{Offer}
 use Rattle.trunk.specs.declared.Offer.the-variants.{Refused as offerRefused, Taken}
 use Rattle.trunk.specs.declared.Offered.{Offered}
 use Rattle.trunk.specs.declared.Sent.{Sent}
 use Rattle.trunk.specs.declared.Sent.the-variants.{Refused as sendRefused, Size}
+use Rattle.trunk.specs.declared.Sending.{Sending}
 use Rattle.trunk.specs.declared.Reply.{Reply}
 use Rattle.trunk.specs.declared.Reply.the-variants.{Refused as replyRefused, Acknowledged}
 use Rattle.trunk.specs.declared.Replied.{Replied}
@@ -39,43 +41,58 @@ rowStart number = rowSize * (number % rows)
 abbrev pub freshNear : Near
 freshNear = record { accepted = 0; acknowledged = 0 }
 
--- 28: "store is not 1,536 bytes"
-abbrev pub wrongStore : List ℕ → Bool
-wrongStore store = not (eqb (length store) storeSize)
+-- 28, by the store's length: "store is not 1,536 bytes"
+abbrev pub wrongStore : ℕ → Bool
+wrongStore size = not (eqb size storeSize)
 
 -- ---- offering
 
--- "Order: 28, the reader's number, 23, 25, 24", by the store's length and what reading answered
-unfoldable pub offerRulesOf : Near → ℕ → Reading → List Refusal
-offerRulesOf near size answer =
-    (28 given-when not (eqb size storeSize))
-    ∷ (numberOf answer given-when not (eqb (numberOf answer) 0))
-    ∷ (23 given-when eqb (kindOf answer) noKind)
+-- "Order: 28, the reader's number, 23, 25, 24", by the store's length, the reader's number and the kind of what was read
+unfoldable pub offerRulesOf : Near → ℕ → ℕ → ℕ → List Refusal
+offerRulesOf near size read kind =
+    (28 given-when wrongStore size)
+    ∷ (read given-when not (eqb read 0))
+    ∷ (23 given-when eqb kind noKind)
     ∷ (25 given-when eqb (near .accepted) lastNumber)
     ∷ (24 given-when leb rows (near .accepted - near .acknowledged))
     ∷ []
 
 abbrev pub offerRules : Near → List ℕ → List ℕ → List Refusal
-offerRules near store d = offerRulesOf near (length store) (reading d)
+offerRules near store d = offerRulesOf near (length store) (numberOf (reading d)) (kindOf (reading d))
 
 -- the record that an offer of d writes: "The PDU takes the accepted count as its number"
 abbrev pub offerRecord : Near → List ℕ → List ℕ
-offerRecord near d = recordOf (kindOf (reading d)) (near .accepted) (writtenForm d)
+offerRecord near d = recordOf (headFor (kindOf (reading d)) (near .accepted)) (writtenForm d)
+
+-- the near end with one more accepted
+abbrev pub oneAccepted : Near → Near
+oneAccepted near = record { accepted = near .accepted + 1; acknowledged = near .acknowledged }
+
+-- the store with that record in its row: "Offering writes the record from the first byte of row (number mod 8)"
+abbrev pub stored : Near → List ℕ → List ℕ → List ℕ
+stored near store d = splice (rowStart (near .accepted)) (offerRecord near d) store
 
 -- what an offer answers and leaves
 unfoldable pub offered : Near → List ℕ → List ℕ → Offered
 offered near store d =
     cond (eqb (first (offerRules near store d)) 0)
-    (record {
-      near = record { accepted = near .accepted + 1; acknowledged = near .acknowledged };
-      answer = Taken (near .accepted);
-    })
+    (record { near = oneAccepted near; answer = Taken (near .accepted) })
     (record { near = near; answer = offerRefused (first (offerRules near store d)) })
 
--- what an offer leaves in the store: "Offering writes the record from the first byte of row (number mod 8)"
+-- what an offer leaves in the store
 unfoldable pub storeAfter : Near → List ℕ → List ℕ → List ℕ
-storeAfter near store d =
-    cond (eqb (first (offerRules near store d)) 0) (splice (rowStart (near .accepted)) (offerRecord near d) store) store
+storeAfter near store d = cond (eqb (first (offerRules near store d)) 0) (stored near store d) store
+
+-- document 01's number and values of its answer: "an offer, the number taken"
+abbrev pub offerSays : Offer → List ℕ
+offerSays (offerRefused n) = n ∷ []
+offerSays (Taken i) = 0 ∷ i ∷ []
+
+-- the whole outcome of an offer: its answer with the near end after it, and the store after it
+pub record OfferGives (near : Near) (store d : List ℕ) (o : Offered) (store′ : List ℕ) : Type 0 where
+  pub answer : o ≡ offered near store d
+  pub says : offerSays (o .answer) ≡ told (first (offerRules near store d)) (near .accepted ∷ [])
+  pub store-is : store′ ≡ storeAfter near store d
 
 -- ---- sending
 
@@ -85,15 +102,15 @@ isHeld near i = leb (near .acknowledged) i && ltb i (near .accepted)
 
 -- the kind byte of number i's row
 abbrev pub rowKind : List ℕ → ℕ → ℕ
-rowKind store i = num 1 (rowStart i) store
+rowKind store i = headAt (rowStart i) store .kind
 
 -- "Sending number i: 28, 26, 20 or 29 by the row's kind byte, 16"
 unfoldable pub sendRules : Near → List ℕ → ℕ → ℕ → List Refusal
 sendRules near store i room =
-    (28 given-when wrongStore store)
+    (28 given-when wrongStore (length store))
     ∷ (26 given-when not (isHeld near i))
     ∷ (20 given-when isUnknown (load (rowKind store i)))
-    ∷ (29 given-when eqb (rowKind store i) replyKind)
+    ∷ (29 given-when isNothing (load (rowKind store i)))
     ∷ (16 given-when ltb room (recordSize (rowKind store i)))
     ∷ []
 
@@ -101,12 +118,16 @@ sendRules near store i room =
 abbrev pub rowRecord : List ℕ → ℕ → List ℕ
 rowRecord store i = take (recordSize (rowKind store i)) (drop (rowStart i) store)
 
--- what a send answers
-unfoldable pub sent : Near → List ℕ → ℕ → ℕ → Sent
+-- what a send answers; it leaves the near end as it was
+unfoldable pub sent : Near → List ℕ → ℕ → ℕ → Sending
 sent near store i room =
-    cond (eqb (first (sendRules near store i room)) 0)
-    (Size (recordSize (rowKind store i)))
-    (sendRefused (first (sendRules near store i room)))
+    record {
+      near = near;
+      answer =
+          cond (eqb (first (sendRules near store i room)) 0)
+          (Size (recordSize (rowKind store i)))
+          (sendRefused (first (sendRules near store i room)));
+    }
 
 -- what a send leaves in the lent buffer
 unfoldable pub sentOut : Near → List ℕ → ℕ → List ℕ → List ℕ
@@ -115,41 +136,53 @@ sentOut near store i out =
     (rowRecord store i ++ drop (recordSize (rowKind store i)) out)
     out
 
+-- document 01's number and values of its answer: "a send, the size written"
+abbrev pub sendSays : Sent → List ℕ
+sendSays (sendRefused n) = n ∷ []
+sendSays (Size n) = 0 ∷ n ∷ []
+
+-- the whole outcome of a send: its answer with the near end after it, and the lent buffer after it
+pub record SendGives (near : Near) (store : List ℕ) (i : ℕ) (out : List ℕ) (s : Sending) (out′ : List ℕ) : Type 0 where
+  pub answer : s ≡ sent near store i (length out)
+  pub says : sendSays (s .answer) ≡ told (first (sendRules near store i (length out))) (recordSize (rowKind store i) ∷ [])
+  pub output : out′ ≡ sentOut near store i out
+
 -- ---- taking a reply
 
--- "Taking a reply: 20, 21, 29, 27"
+-- "Taking a reply: 20, 21, 29, 27"; and those behind the form
+abbrev pub replyRest : Near → List ℕ → List Refusal
+replyRest near r = (29 given-when not (isReply r)) ∷ (27 given-when ltb (near .accepted) (numberIn r)) ∷ []
+
 unfoldable pub replyRules : Near → List ℕ → List Refusal
-replyRules near r =
-    (20 given-when unknownKind r)
-    ∷ (21 given-when wrongSize r)
-    ∷ (29 given-when not (isReply r))
-    ∷ (27 given-when ltb (near .accepted) (numberIn r))
-    ∷ []
+replyRules near r = formRules r ++ replyRest near r
 
 -- "below the acknowledged count it changes nothing, else that count becomes its number"
 abbrev pub acknowledgedAfter : ℕ → ℕ → ℕ
 acknowledgedAfter count number = cond (ltb number count) count number
+
+-- the near end after a reply with this number
+abbrev pub acknowledging : Near → ℕ → Near
+acknowledging near number =
+    record { accepted = near .accepted; acknowledged = acknowledgedAfter (near .acknowledged) number }
 
 -- what taking a reply answers and leaves
 unfoldable pub replied : Near → List ℕ → Replied
 replied near r =
     cond (eqb (first (replyRules near r)) 0)
     (record {
-      near = record { accepted = near .accepted; acknowledged = acknowledgedAfter (near .acknowledged) (numberIn r) };
+      near = acknowledging near (numberIn r);
       answer = Acknowledged (acknowledgedAfter (near .acknowledged) (numberIn r));
     })
     (record { near = near; answer = replyRefused (first (replyRules near r)) })
 
--- ---- document 01's number and values of each answer: "a send, the size written; an offer, the number taken; a reply, the acknowledged count"
-
-abbrev pub offerSays : Offer → List ℕ
-offerSays (offerRefused n) = n ∷ []
-offerSays (Taken i) = 0 ∷ i ∷ []
-
-abbrev pub sendSays : Sent → List ℕ
-sendSays (sendRefused n) = n ∷ []
-sendSays (Size n) = 0 ∷ n ∷ []
-
+-- document 01's number and values of its answer: "a reply, the acknowledged count"
 abbrev pub replySays : Reply → List ℕ
 replySays (replyRefused n) = n ∷ []
 replySays (Acknowledged n) = 0 ∷ n ∷ []
+
+-- the whole outcome of taking a reply: its answer with the near end after it
+pub record ReplyGives (near : Near) (r : List ℕ) (o : Replied) : Type 0 where
+  pub answer : o ≡ replied near r
+  pub says :
+      replySays (o .answer)
+      ≡ told (first (replyRules near r)) (acknowledgedAfter (near .acknowledged) (numberIn r) ∷ [])

@@ -1,26 +1,74 @@
--- Document 01's rules for the trunk's calls, in its order and in plain numbers, beside the tests of Record, Near and Far.
--- `num w o r` is the number in the w bytes of r from byte o on: of a record, byte 0 is the kind and bytes 1 to 4 are the number.
-use Prim.Native.Nat.{ℕ, _+_, _≤_, _<_}
+-- Document 01's rules for the trunk's calls, in its order, in plain numbers and at byte places, beside the tables and tests of Kinds, Record,
+-- Near and Far, with which they share no constant. `num w o r` is the number in the w bytes of r from byte o on: of a record, byte 0 is the
+-- kind, bytes 1 to 4 are the number, and the PDU stands from byte 5 on.
+use Prim.Native.Nat.{ℕ, _+_, _*_, _%_, _≤_, _<_}
 use mathlib.Core.Path.{_≡_}
 use mathlib.Core.Logic.{_⊎_, _≢_}
+use mathlib.Core.Bool.{Bool, cond}
 use mathlib.Core.List.{List, [], _∷_}
-use lib.ListN.{length}
+use lib.ListN.{length, getD, drop}
+use lib.Dec.{eqb}
 use Rattle.wire.specs.Bytes.{num}
-use Rattle.pdu.specs.Numbers.{mostWords}
 use Rattle.pdu.specs.Plain.{Rule, _unless_}
 use Rattle.pdu.specs.Reading.{reading, refusal}
 use Rattle.pdu.specs.Writing.{writtenForm}
+use Rattle.pdu.specs.declared.Transmitter.{Transmitter as TransmitterFields}
 use Rattle.pdu.specs.declared.Signal.{Signal as SignalFields}
-use Rattle.pdu.specs.declared.Reading.the-variants.{Signal}
-use Rattle.trunk.specs.Kinds.{transmitterKind, replyKind, recordSize, headSize, kindOf}
-use Rattle.trunk.specs.Record.{carriedIn, lastNumber}
-use Rattle.trunk.specs.Near.{rows, storeSize, rowStart}
-use Rattle.trunk.specs.Far.{leastOutput}
+use Rattle.pdu.specs.declared.Reading.{Reading}
+use Rattle.pdu.specs.declared.Reading.the-variants.{Transmitter as aTransmitter, Signal as aSignal}
+use Rattle.trunk.specs.declared.Load.{Load}
+use Rattle.trunk.specs.declared.Load.the-variants.{Words, Transmitter, Nothing, Unknown}
 use Rattle.trunk.specs.declared.Near.{Near}
+
+-- ---- kinds
 
 -- "Kind n from 0 to 12 ..; Kind 16 ..; Kind 32"
 abbrev pub KnownKind : ℕ → Type 0
-KnownKind kind = (kind ≤ mostWords) ⊎ ((kind ≡ transmitterKind) ⊎ (kind ≡ replyKind))
+KnownKind kind = (kind ≤ 12) ⊎ ((kind ≡ 16) ⊎ (kind ≡ 32))
+
+-- what a kind carries: "a type 0 Signal of n words", "a Transmitter", "a reply, the number alone"
+pub data KindCarries (kind : ℕ) : Load → Type 0 where
+  signal : kind ≤ 12 → KindCarries kind (Words kind)
+  transmitter : kind ≡ 16 → KindCarries kind Transmitter
+  reply : kind ≡ 32 → KindCarries kind Nothing
+  none : ¬ KnownKind kind → KindCarries kind Unknown
+
+-- the length of a record of a kind: "Records: 65, 73, 85, 185" for 0 to 12 words; "Transmitter 117; reply 5", and 5 where it is unknown
+abbrev pub signalLengths : List ℕ
+signalLengths = 65 ∷ 73 ∷ 85 ∷ 93 ∷ 105 ∷ 113 ∷ 125 ∷ 133 ∷ 145 ∷ 153 ∷ 165 ∷ 173 ∷ 185 ∷ []
+
+abbrev pub otherLength : Bool → ℕ
+otherLength isTransmitter = cond isTransmitter 117 5
+
+abbrev pub plainLength : ℕ → ℕ
+plainLength kind = getD signalLengths kind (otherLength (eqb kind 16))
+
+-- "a PDU of that kind": n words behind 6 header bytes, 10 bytes each, for kind n; a Transmitter for kind 16
+pub data OfKind (kind : ℕ) : Reading → Type 0 where
+  signal : (s : SignalFields) (n : ℕ) → s .network .«message_type» ≡ 0 → n ≡ 6 + 10 * kind → OfKind kind (aSignal s n)
+  transmitter : (t : TransmitterFields) → kind ≡ 16 → OfKind kind (aTransmitter t)
+
+-- ---- rules
+
+-- 28: "store is not 1,536 bytes"
+abbrev pub StoreRule : List ℕ → Type 0
+StoreRule store = length store ≡ 1536
+
+-- 25: "4,294,967,295 PDUs accepted already, or a PDU record with that number"
+abbrev pub NumberRule : ℕ → Type 0
+NumberRule number = number ≢ 4294967295
+
+-- 24: "eight PDUs unacknowledged"
+abbrev pub WindowRule : Near → Type 0
+WindowRule near = near .accepted < near .acknowledged + 8
+
+-- 16 at the far end: "if the reply buffer is under 5 bytes or the output under 180"
+abbrev pub RoomRule : ℕ → ℕ → Type 0
+RoomRule replyRoom room = (5 ≤ replyRoom) × (180 ≤ room)
+
+-- 29: the kind of a reply
+abbrev pub ReplyKind : ℕ → Type 0
+ReplyKind kind = kind ≡ 32
 
 -- 20: "first byte present, but no known trunk kind"
 abbrev pub KindRule : List ℕ → Type 0
@@ -28,37 +76,43 @@ KindRule r = 0 < length r → KnownKind (num 1 0 r)
 
 -- 21: "record empty, or not the length of its kind"
 abbrev pub LengthRule : List ℕ → Type 0
-LengthRule r = (0 < length r) × (length r ≡ recordSize (num 1 0 r))
+LengthRule r = (0 < length r) × (length r ≡ plainLength (num 1 0 r))
 
 -- 22: "carried bytes are not what the writer would give, or not a PDU of that kind"
 abbrev pub CarriedRule : List ℕ → Type 0
 CarriedRule r =
-    (refusal (carriedIn r) ≡ 0)
-    × (writtenForm (carriedIn r) ≡ carriedIn r)
-    × (kindOf (reading (carriedIn r)) ≡ num 1 0 r)
+    (refusal (drop 5 r) ≡ 0)
+    × (writtenForm (drop 5 r) ≡ drop 5 r)
+    × OfKind (num 1 0 r) (reading (drop 5 r))
 
 -- 23: "types 1 to 7 are not carried"
 abbrev pub TypeRule : List ℕ → Type 0
-TypeRule d = (s : SignalFields) (n : ℕ) → reading d ≡ Signal s n → s .network .«message_type» ≡ 0
+TypeRule d = (s : SignalFields) (n : ℕ) → reading d ≡ aSignal s n → s .network .«message_type» ≡ 0
+
+-- ---- the calls
 
 -- Offering: 28, the reader's number, 23, 25, 24
 abbrev pub plainOffer : Near → List ℕ → List ℕ → List Rule
 plainOffer near store d =
-    (28 unless (length store ≡ storeSize))
+    (28 unless StoreRule store)
     ∷ (refusal d unless (refusal d ≡ 0))
     ∷ (23 unless TypeRule d)
-    ∷ (25 unless (near .accepted ≢ lastNumber))
-    ∷ (24 unless (near .accepted < near .acknowledged + rows))
+    ∷ (25 unless NumberRule (near .accepted))
+    ∷ (24 unless WindowRule near)
     ∷ []
+
+-- the kind byte of number i's row: "rows of 192 bytes", "row (number mod 8)"
+abbrev pub plainRowKind : List ℕ → ℕ → ℕ
+plainRowKind store i = num 1 (192 * (i % 8)) store
 
 -- Sending number i: 28, 26, 20, 29, 16
 abbrev pub plainSend : Near → List ℕ → ℕ → ℕ → List Rule
 plainSend near store i room =
-    (28 unless (length store ≡ storeSize))
+    (28 unless StoreRule store)
     ∷ (26 unless ((near .acknowledged ≤ i) × (i < near .accepted)))
-    ∷ (20 unless KnownKind (num 1 (rowStart i) store))
-    ∷ (29 unless (num 1 (rowStart i) store ≢ replyKind))
-    ∷ (16 unless (recordSize (num 1 (rowStart i) store) ≤ room))
+    ∷ (20 unless KnownKind (plainRowKind store i))
+    ∷ (29 unless (¬ ReplyKind (plainRowKind store i)))
+    ∷ (16 unless (plainLength (plainRowKind store i) ≤ room))
     ∷ []
 
 -- Taking a reply: 20, 21, 29, 27
@@ -66,7 +120,7 @@ abbrev pub plainReply : Near → List ℕ → List Rule
 plainReply near r =
     (20 unless KindRule r)
     ∷ (21 unless LengthRule r)
-    ∷ (29 unless (num 1 0 r ≡ replyKind))
+    ∷ (29 unless ReplyKind (num 1 0 r))
     ∷ (27 unless (num 4 1 r ≤ near .accepted))
     ∷ []
 
@@ -75,8 +129,8 @@ abbrev pub plainArrival : List ℕ → ℕ → ℕ → List Rule
 plainArrival r replyRoom room =
     (20 unless KindRule r)
     ∷ (21 unless LengthRule r)
-    ∷ (29 unless (num 1 0 r ≢ replyKind))
-    ∷ (25 unless (num 4 1 r ≢ lastNumber))
+    ∷ (29 unless (¬ ReplyKind (num 1 0 r)))
+    ∷ (25 unless NumberRule (num 4 1 r))
     ∷ (22 unless CarriedRule r)
-    ∷ (16 unless ((headSize ≤ replyRoom) × (leastOutput ≤ room)))
+    ∷ (16 unless RoomRule replyRoom room)
     ∷ []

@@ -4,33 +4,33 @@ use mathlib.Core.Bool.{Bool, cond, not, _&&_}
 use mathlib.Core.List.{List, [], _∷_, _++_}
 use lib.ListN.{length, drop}
 use lib.Dec.{eqb, ltb}
-use Rattle.wire.specs.Bytes.{num}
-use Rattle.wire.specs.Table.{Slot, kept, fill}
 use Rattle.wire.specs.First.{Refusal, _given-when_, first}
 use Rattle.pdu.specs.Reading.{reading}
 use Rattle.pdu.specs.Writing.{inWrittenForm}
-use Rattle.trunk.specs.Kinds.{load, isUnknown, recordSize, replyKind, headSize, kindOf}
+use Rattle.trunk.specs.Head.{headSize, headAt, headBytes}
+use Rattle.trunk.specs.Kinds.{load, isUnknown, isNothing, recordSize, replyKind, kindOf}
+use Rattle.trunk.specs.declared.Head.{Head}
 use Rattle.trunk.specs.declared.Checked.{Checked}
 use Rattle.trunk.specs.declared.Checked.the-variants.{Refused, Reply, Pdu}
 
--- "A record is one byte of kind, then .. a 4-byte number, then the PDU as the writer gives it"
-abbrev pub headTable : List Slot
-headTable = kept 1 ∷ kept 4 ∷ []
+-- the head of a kind and a number
+abbrev pub headFor : ℕ → ℕ → Head
+headFor kind number = record { kind = kind; number = number }
 
--- the record of a kind and a number that carries these bytes
-unfoldable pub recordOf : ℕ → ℕ → List ℕ → List ℕ
-recordOf kind number pdu = fill headTable (kind ∷ number ∷ []) ++ pdu
+-- the record with this head that carries these bytes: "then the PDU as the writer gives it"
+unfoldable pub recordOf : Head → List ℕ → List ℕ
+recordOf head pdu = headBytes head ++ pdu
 
 -- the reply with this number
 abbrev pub replyOf : ℕ → List ℕ
-replyOf number = recordOf replyKind number []
+replyOf number = recordOf (headFor replyKind number) []
 
 -- a record's kind, number and carried bytes
 abbrev pub kindIn : List ℕ → ℕ
-kindIn r = num 1 0 r
+kindIn r = headAt 0 r .kind
 
 abbrev pub numberIn : List ℕ → ℕ
-numberIn r = num 4 1 r
+numberIn r = headAt 0 r .number
 
 abbrev pub carriedIn : List ℕ → List ℕ
 carriedIn r = drop headSize r
@@ -38,6 +38,8 @@ carriedIn r = drop headSize r
 -- the number that no PDU takes (25), and that no count passes
 abbrev pub lastNumber : ℕ
 lastNumber = 4294967295
+
+-- ---- the rules
 
 -- 20: "first byte present, but no known trunk kind"
 unfoldable pub unknownKind : List ℕ → Bool
@@ -49,7 +51,7 @@ wrongSize r = not (eqb (length r) (recordSize (kindIn r)))
 
 -- whether a record is a reply (29 where a PDU belongs; its reverse where a reply belongs)
 unfoldable pub isReply : List ℕ → Bool
-isReply r = eqb (kindIn r) replyKind
+isReply r = isNothing (load (kindIn r))
 
 -- 25: "a PDU record with that number"
 unfoldable pub lastOfAll : List ℕ → Bool
@@ -59,14 +61,19 @@ lastOfAll r = not (isReply r) && eqb (numberIn r) lastNumber
 unfoldable pub wrongCarried : List ℕ → Bool
 wrongCarried r = not (isReply r) && not (inWrittenForm (carriedIn r) && eqb (kindOf (reading (carriedIn r))) (kindIn r))
 
+-- the rules on a record's form, with which every call that takes a record begins
+unfoldable pub formRules : List ℕ → List Refusal
+formRules r = (20 given-when unknownKind r) ∷ (21 given-when wrongSize r) ∷ []
+
+-- the rules on the PDU of a record
+unfoldable pub pduRules : List ℕ → List Refusal
+pduRules r = (25 given-when lastOfAll r) ∷ (22 given-when wrongCarried r) ∷ []
+
+-- ---- the check
+
 -- "The lister and the host's check test 20, 21, 25, 22"
-unfoldable pub checkRules : List ℕ → List Refusal
-checkRules r =
-    (20 given-when unknownKind r)
-    ∷ (21 given-when wrongSize r)
-    ∷ (25 given-when lastOfAll r)
-    ∷ (22 given-when wrongCarried r)
-    ∷ []
+abbrev pub checkRules : List ℕ → List Refusal
+checkRules r = formRules r ++ pduRules r
 
 -- what checking a record answers
 unfoldable pub checked : List ℕ → Checked

@@ -3,23 +3,55 @@ ghost use mathlib.Core.Path.{_≡_};
 ghost use Prim.Native.Nat.{_≤_, _<_};
 ghost use lib.ListN.{length};
 ghost use Rattle.wire.specs.Bytes.{splice};
-ghost use Rattle.wire.specs.First.{first, told};
+ghost use Rattle.trunk.specs.Head.{headSize};
 ghost use Rattle.trunk.specs.Record.{lastNumber, replyOf};
-ghost use Rattle.trunk.specs.Far.{arrivalRules, isNext, countAfter, delivered, arrived, arrivalSays, valuesOf, replyAfter, outputAfter, ticked};
+ghost use Rattle.trunk.specs.Far.{madeFar, isNext, countAfter, delivered, ArrivalGives, ticked};
 use crate::Arrival;
 use crate::Arrived;
 use crate::Far;
+use crate::Head;
+use crate::MadeFar;
 use crate::Ticked;
+use crate::kinds;
 use crate::records;
 use station::Station;
 
+// A far end before its first call, with a station of this level and net; 37 where the level is above 4 or the net above 127.
+pub fn new(level: u8, net: u8) -> MadeFar
+    ensures { λ r. ⌜ r ≡ madeFar level net ⌝ }
+{
+    let made = station::new(level, net);
+    let station = made.station;
+    MadeFar {
+        far: Far { count: 0, station },
+        answer: made.answer,
+    }
+}
+
+// How many PDUs a far end has delivered.
+pub fn count(far: Far) -> u32
+    ensures { λ r. ⌜ r ≡ far .count ⌝ }
+{
+    far.count
+}
+
+// The station of a far end.
+pub fn station(far: Far) -> Station
+    ensures { λ r. ⌜ r ≡ far .station ⌝ }
+{
+    far.station
+}
+
 // Writes a reply with this count from the start of a reply buffer.
 fn put_reply(reply: &mut [u8], count: u32)
-    requires { ⌜ 5 ≤ length (now reply) ⌝ }
+    requires { ⌜ headSize ≤ length (now reply) ⌝ }
     ensures { λ _. ⌜ now (reply .exit) ≡ splice 0 (replyOf count) (now (reply .entry)) ⌝ }
 {
-    wire::put_u8(reply, 0, records::REPLY_KIND);
-    wire::put_u32(reply, 1, count);
+    let head = Head {
+        kind: kinds::REPLY_KIND,
+        number: count,
+    };
+    records::put_head(reply, head);
 }
 
 // Whether a record with this number is the next.
@@ -61,10 +93,7 @@ fn deliver(count: u32, station: Station, pdu: &[u8], out: &mut [u8]) -> Arrived
 // A record arrives: the next number's PDU is put out and the station hears it; a repeat and an early record change nothing. Each gets a
 // reply with the count after it.
 pub fn arrive(far: Far, received: &[u8], reply: &mut [u8], out: &mut [u8]) -> Arrived
-    ensures answer { λ r. ⌜ r ≡ arrived far (now (received .entry)) (length (now (reply .entry))) (length (now (out .entry))) ⌝ }
-    ensures says { λ r. ⌜ arrivalSays (r .answer) ≡ told (first (arrivalRules (now (received .entry)) (length (now (reply .entry))) (length (now (out .entry))))) (valuesOf far (now (received .entry))) ⌝ }
-    ensures reply { λ _. ⌜ now (reply .exit) ≡ replyAfter far (now (received .entry)) (now (reply .entry)) (length (now (out .entry))) ⌝ }
-    ensures output { λ _. ⌜ now (out .exit) ≡ outputAfter far (now (received .entry)) (length (now (reply .entry))) (now (out .entry)) ⌝ }
+    ensures { λ r. ⌜ ArrivalGives far (now (received .entry)) (now (reply .entry)) (now (out .entry)) r (now (reply .exit)) (now (out .exit)) ⌝ }
 {
     let n = records::arrival_refusal(received, reply.len(), out.len());
     if n != 0 {
@@ -73,7 +102,8 @@ pub fn arrive(far: Far, received: &[u8], reply: &mut [u8], out: &mut [u8]) -> Ar
             answer: Arrival::Refused(n),
         };
     }
-    let number = wire::u32_at(received, 1);
+    let head = records::head_of(received);
+    let number = head.number;
     let count = far.count;
     let after = count_after(count, number);
     put_reply(reply, after);

@@ -3,13 +3,28 @@
 use station::Station;
 
 pub mod far_end;
+pub mod kinds;
 pub mod near_end;
 pub mod records;
 
-// The near end: how many PDUs were accepted, and how many the far end has acknowledged.
+// What a record carries behind its head: a type 0 Signal of so many words, a Transmitter, or nothing; or its kind is unknown.
+pub enum Load {
+    Words(u16),
+    Transmitter,
+    Nothing,
+    Unknown,
+}
+
+// A record's head.
+struct Head {
+    kind: u8,
+    number: u32,
+}
+
+// The near end: how many PDUs were accepted, and how many the far end has acknowledged. Only calls make one.
 pub struct Near {
-    pub accepted: u32,
-    pub acknowledged: u32,
+    accepted: u32,
+    acknowledged: u32,
 }
 
 // What an offer answers: a refusal, or the number that the PDU took.
@@ -30,6 +45,12 @@ pub enum Sent {
     Size(usize),
 }
 
+// The near end after a send, which leaves it as it was, and its answer.
+pub struct Sending {
+    pub near: Near,
+    pub answer: Sent,
+}
+
 // What taking a reply answers: a refusal, or the acknowledged count after it.
 pub enum Reply {
     Refused(u8),
@@ -42,10 +63,16 @@ pub struct Replied {
     pub answer: Reply,
 }
 
-// The far end: how many PDUs were delivered, and the station that hears them.
+// The far end: how many PDUs were delivered, and the station that hears them. Only calls make one.
 pub struct Far {
-    pub count: u32,
-    pub station: Station,
+    count: u32,
+    station: Station,
+}
+
+// What the far end's maker answers: 0, or 37 with a station of level 0, net 0.
+pub struct MadeFar {
+    pub far: Far,
+    pub answer: u8,
 }
 
 // What a record's arrival answers: a refusal; delivered, with the PDU's size and the station's answer; a repeat; or early.

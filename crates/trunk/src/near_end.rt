@@ -1,21 +1,24 @@
 // The near end: offering, sending and taking a reply.
 ghost use mathlib.Core.Path.{_≡_};
-ghost use Prim.Native.Nat.{_-_, _≤_};
-ghost use mathlib.Core.List.{[], _∷_};
+ghost use Prim.Native.Nat.{_+_, _-_, _≤_};
 ghost use lib.ListN.{length};
 ghost use Rattle.wire.specs.Bytes.{splice};
-ghost use Rattle.wire.specs.First.{first, told};
+ghost use Rattle.wire.specs.First.{first};
 ghost use Rattle.pdu.specs.Reading.{reading};
 ghost use Rattle.pdu.specs.Writing.{writtenForm};
-ghost use Rattle.trunk.specs.Kinds.{kindOf, noKind, recordSize};
-ghost use Rattle.trunk.specs.Record.{recordOf, numberIn};
-ghost use Rattle.trunk.specs.Near.{offerRulesOf, offerRules, offered, offerSays, storeAfter, rowStart, rowKind, sendRules, sent, sendSays, sentOut, replyRules, replied, replySays, acknowledgedAfter};
+ghost use Rattle.trunk.specs.Kinds.{kindOf, noKind, longestPdu, longestRecord};
+ghost use Rattle.trunk.specs.Record.{recordOf};
+ghost use Rattle.trunk.specs.Near.{rowSize, storeSize, freshNear, rowStart, offerRulesOf, sendRules, acknowledgedAfter, OfferGives};
+ghost use Rattle.trunk.specs.Near.{SendGives, ReplyGives};
+use crate::Head;
 use crate::Near;
 use crate::Offer;
 use crate::Offered;
 use crate::Replied;
 use crate::Reply;
+use crate::Sending;
 use crate::Sent;
+use crate::kinds;
 use crate::records;
 use pdu::Reading;
 
@@ -23,29 +26,50 @@ const ROWS: u32 = 8;
 
 const ROW_SIZE: usize = 192;
 
-const STORE_SIZE: usize = 1536;
+const STORE_SIZE: usize = ROWS as usize * ROW_SIZE;
 
-const BODY_START: usize = 52;
+// A near end before its first call.
+pub fn new() -> Near
+    ensures { λ r. ⌜ r ≡ freshNear ⌝ }
+{
+    Near {
+        accepted: 0,
+        acknowledged: 0,
+    }
+}
+
+// How many PDUs a near end has accepted.
+pub fn accepted(near: Near) -> u32
+    ensures { λ r. ⌜ r ≡ near .accepted ⌝ }
+{
+    near.accepted
+}
+
+// How many of them the far end has acknowledged.
+pub fn acknowledged(near: Near) -> u32
+    ensures { λ r. ⌜ r ≡ near .acknowledged ⌝ }
+{
+    near.acknowledged
+}
 
 // Where the row of a number starts.
 fn row_start(number: u32) -> usize
-    ensures { λ r. ⌜ (r ≡ rowStart number) × (r ≤ 1344) ⌝ }
+    ensures { λ r. ⌜ (r ≡ rowStart number) × (r + rowSize ≤ storeSize) ⌝ }
 {
     ROW_SIZE * (number % ROWS) as usize
 }
 
-// The number of the first broken rule of an offer, or 0.
-fn offer_refusal(near: Near, store_length: usize, answer: Reading) -> u8
-    ensures { λ r. ⌜ r ≡ first (offerRulesOf near «store_length» answer) ⌝ }
+// The number of the first broken rule of an offer, by the reader's number and the kind of what was read, or 0.
+fn offer_refusal(near: Near, store_length: usize, read: u8, kind: u16) -> u8
+    ensures { λ r. ⌜ r ≡ first (offerRulesOf near «store_length» read kind) ⌝ }
 {
     if store_length != STORE_SIZE {
         return 28;
     }
-    let n = pdu::number(answer);
-    if n != 0 {
-        return n;
+    if read != 0 {
+        return read;
     }
-    if records::kind_of(answer) == records::NO_KIND {
+    if kind == kinds::NO_KIND {
         return 23;
     }
     if near.accepted == records::LAST_NUMBER {
@@ -69,7 +93,7 @@ fn unacknowledged(near: Near) -> u32
 
 // Writes the PDU of a taken datagram, by what reading answered, from the start of `out`, as the writer gives it.
 fn put_pdu(out: &mut [u8], answer: Reading, datagram: &[u8])
-    requires { ⌜ (187 ≤ length (now out)) × (answer ≡ reading (now datagram)) × (kindOf (reading (now datagram)) ≡ noKind → ⊥) ⌝ }
+    requires { ⌜ (longestPdu ≤ length (now out)) × (answer ≡ reading (now datagram)) × (kindOf (reading (now datagram)) ≡ noKind → ⊥) ⌝ }
     ensures { λ _. ⌜ now (out .exit) ≡ splice 0 (writtenForm (now (datagram .entry))) (now (out .entry)) ⌝ }
 {
     match answer {
@@ -78,30 +102,28 @@ fn put_pdu(out: &mut [u8], answer: Reading, datagram: &[u8])
             pdu::write_transmitter(t, out);
         }
         Reading::Signal(s, n) => {
-            let end = BODY_START + n as usize;
-            pdu::write_signal(s, &datagram[BODY_START..end], out);
+            let end = pdu::BODY_START + n as usize;
+            pdu::write_signal(s, &datagram[pdu::BODY_START..end], out);
         }
     }
 }
 
 // Writes a record from the start of a row.
-fn put_record(row: &mut [u8], kind: u8, number: u32, answer: Reading, datagram: &[u8])
-    requires { ⌜ (192 ≤ length (now row)) × (answer ≡ reading (now datagram)) × (kindOf (reading (now datagram)) ≡ noKind → ⊥) ⌝ }
-    ensures { λ _. ⌜ now (row .exit) ≡ splice 0 (recordOf kind number (writtenForm (now (datagram .entry)))) (now (row .entry)) ⌝ }
+fn put_record(row: &mut [u8], head: Head, answer: Reading, datagram: &[u8])
+    requires { ⌜ (longestRecord ≤ length (now row)) × (answer ≡ reading (now datagram)) × (kindOf (reading (now datagram)) ≡ noKind → ⊥) ⌝ }
+    ensures { λ _. ⌜ now (row .exit) ≡ splice 0 (recordOf head (writtenForm (now (datagram .entry)))) (now (row .entry)) ⌝ }
 {
-    wire::put_u8(row, 0, kind);
-    wire::put_u32(row, 1, number);
+    records::put_head(row, head);
     put_pdu(&mut row[records::HEAD_SIZE..], answer, datagram);
 }
 
 // Offers a datagram: takes its PDU under the next number and writes its record into that number's row of the store.
 pub fn offer(near: Near, store: &mut [u8], datagram: &[u8]) -> Offered
-    ensures answer { λ r. ⌜ r ≡ offered near (now (store .entry)) (now (datagram .entry)) ⌝ }
-    ensures says { λ r. ⌜ offerSays (r .answer) ≡ told (first (offerRules near (now (store .entry)) (now (datagram .entry)))) (near .accepted ∷ []) ⌝ }
-    ensures store { λ _. ⌜ now (store .exit) ≡ storeAfter near (now (store .entry)) (now (datagram .entry)) ⌝ }
+    ensures { λ r. ⌜ OfferGives near (now (store .entry)) (now (datagram .entry)) r (now (store .exit)) ⌝ }
 {
     let answer = pdu::read(datagram);
-    let n = offer_refusal(near, store.len(), answer);
+    let kind = kinds::kind_of(answer);
+    let n = offer_refusal(near, store.len(), pdu::number(answer), kind);
     if n != 0 {
         return Offered {
             near,
@@ -110,14 +132,11 @@ pub fn offer(near: Near, store: &mut [u8], datagram: &[u8]) -> Offered
     }
     let number = near.accepted;
     let start = row_start(number);
-    let kind = records::kind_of(answer) as u8;
-    put_record(
-        &mut store[start..start + ROW_SIZE],
-        kind,
+    let head = Head {
+        kind: kind as u8,
         number,
-        answer,
-        datagram,
-    );
+    };
+    put_record(&mut store[start..start + ROW_SIZE], head, answer, datagram);
     Offered {
         near: Near {
             accepted: number + 1,
@@ -137,40 +156,44 @@ fn send_refusal(near: Near, store: &[u8], i: u32, room: usize) -> u8
     if wire::no(wire::both(near.acknowledged <= i, i < near.accepted)) {
         return 26;
     }
-    let kind = wire::u8_at(store, row_start(i));
-    if records::is_unknown(kind) {
+    let kind = records::kind_at(store, row_start(i));
+    let load = kinds::load(kind);
+    if kinds::is_unknown(load) {
         return 20;
     }
-    if kind == records::REPLY_KIND {
+    if kinds::is_nothing(load) {
         return 29;
     }
-    if room < records::record_size(kind) {
+    if room < kinds::record_size(kind) {
         return 16;
     }
     0
 }
 
-// Sends number i: its record, as its row of the store has it, from the start of `out`.
-pub fn send(near: Near, store: &[u8], i: u32, out: &mut [u8]) -> Sent
-    ensures answer { λ r. ⌜ r ≡ sent near (now (store .entry)) i (length (now (out .entry))) ⌝ }
-    ensures says { λ r. ⌜ sendSays r ≡ told (first (sendRules near (now (store .entry)) i (length (now (out .entry))))) (recordSize (rowKind (now (store .entry)) i) ∷ []) ⌝ }
-    ensures output { λ _. ⌜ now (out .exit) ≡ sentOut near (now (store .entry)) i (now (out .entry)) ⌝ }
+// Sends number i: its record, as its row of the store has it, from the start of `out`. The near end stays as it was.
+pub fn send(near: Near, store: &[u8], i: u32, out: &mut [u8]) -> Sending
+    ensures { λ r. ⌜ SendGives near (now (store .entry)) i (now (out .entry)) r (now (out .exit)) ⌝ }
 {
     let n = send_refusal(near, store, i, out.len());
     if n != 0 {
-        return Sent::Refused(n);
+        return Sending {
+            near,
+            answer: Sent::Refused(n),
+        };
     }
     let start = row_start(i);
-    let size = records::record_size(wire::u8_at(store, start));
+    let size = kinds::record_size(records::kind_at(store, start));
     let end = start + size;
     wire::copy(out, 0, &store[start..end]);
-    Sent::Size(size)
+    Sending {
+        near,
+        answer: Sent::Size(size),
+    }
 }
 
 // Takes a reply: a number below the acknowledged count changes nothing, any other becomes that count.
 pub fn take_reply(near: Near, received: &[u8]) -> Replied
-    ensures answer { λ r. ⌜ r ≡ replied near (now (received .entry)) ⌝ }
-    ensures says { λ r. ⌜ replySays (r .answer) ≡ told (first (replyRules near (now (received .entry)))) (acknowledgedAfter (near .acknowledged) (numberIn (now (received .entry))) ∷ []) ⌝ }
+    ensures { λ r. ⌜ ReplyGives near (now (received .entry)) r ⌝ }
 {
     let n = records::reply_refusal(near, received);
     if n != 0 {
@@ -179,7 +202,8 @@ pub fn take_reply(near: Near, received: &[u8]) -> Replied
             answer: Reply::Refused(n),
         };
     }
-    let count = later(near.acknowledged, wire::u32_at(received, 1));
+    let head = records::head_of(received);
+    let count = later(near.acknowledged, head.number);
     Replied {
         near: Near {
             accepted: near.accepted,

@@ -1,143 +1,102 @@
-// Records: their kinds, their rules, and the check of one.
+// Records: their head, their rules, and the check of one.
 ghost use mathlib.Core.Path.{_≡_};
-ghost use Prim.Native.Nat.{_≤_};
+ghost use Prim.Native.Nat.{_+_, _≤_};
 ghost use lib.ListN.{length};
+ghost use Rattle.wire.specs.Bytes.{splice};
 ghost use Rattle.wire.specs.First.{first};
-ghost use Rattle.trunk.specs.Kinds.{load, isUnknown, recordSize, kindOf, kindOfWords};
-ghost use Rattle.trunk.specs.Record.{unknownKind, wrongSize, isReply, lastOfAll, wrongCarried, checkRules, checked, numberOfChecked, sizeOfChecked};
+ghost use Rattle.trunk.specs.Head.{headSize, headAt, headBytes};
+ghost use Rattle.trunk.specs.Record.{isReply, wrongCarried, formRules, pduRules, checkRules, checked, numberOfChecked, sizeOfChecked};
 ghost use Rattle.trunk.specs.Near.{replyRules};
 ghost use Rattle.trunk.specs.Far.{arrivalRules};
 use crate::Checked;
+use crate::Head;
 use crate::Near;
-use pdu::Reading;
+use crate::kinds;
 
-const MOST_WORDS: u8 = 12;
-
-pub const TRANSMITTER_KIND: u8 = 16;
-
-pub(crate) const REPLY_KIND: u8 = 32;
-
-pub(crate) const NO_KIND: u16 = 256;
+// Where the number stands in a head, and the head's width.
+const NUMBER_AT: usize = 1;
 
 pub(crate) const HEAD_SIZE: usize = 5;
 
+// The number that no PDU takes.
 pub(crate) const LAST_NUMBER: u32 = 4294967295;
 
-const LEAST_OUTPUT: usize = 180;
-
-const BODY_HEADER: u16 = 6;
-
-const WORD_BYTES: u16 = 10;
-
-const TRANSMITTER_SIZE: usize = 112;
-
-// Whether the table of kinds lacks this one.
-pub(crate) fn is_unknown(kind: u8) -> bool
-    ensures { λ r. ⌜ r ≡ isUnknown (load kind) ⌝ }
+// The kind in the head that starts at `at`.
+pub(crate) fn kind_at(r: &[u8], at: usize) -> u8
+    requires { ⌜ at + 1 ≤ length (now r) ⌝ }
+    ensures { λ k. ⌜ k ≡ headAt at (now (r .entry)) .kind ⌝ }
 {
-    wire::no(wire::either(
-        kind <= MOST_WORDS,
-        wire::either(kind == TRANSMITTER_KIND, kind == REPLY_KIND),
-    ))
+    wire::u8_at(r, at)
 }
 
-// The length of a record of this kind; the head alone where the kind is unknown.
-pub fn record_size(kind: u8) -> usize
-    ensures { λ r. ⌜ r ≡ recordSize kind ⌝ }
+// The head of a record.
+pub(crate) fn head_of(r: &[u8]) -> Head
+    requires { ⌜ headSize ≤ length (now r) ⌝ }
+    ensures { λ h. ⌜ h ≡ headAt 0 (now (r .entry)) ⌝ }
 {
-    if kind <= MOST_WORDS {
-        return HEAD_SIZE + (61 + 10 * kind as usize) / 4 * 4;
-    }
-    if kind == TRANSMITTER_KIND {
-        return HEAD_SIZE + TRANSMITTER_SIZE;
-    }
-    HEAD_SIZE
-}
-
-// The kind that carries what reading answered, or `NO_KIND`.
-pub(crate) fn kind_of(answer: Reading) -> u16
-    ensures { λ r. ⌜ r ≡ kindOf answer ⌝ }
-{
-    match answer {
-        Reading::Refused(_) => NO_KIND,
-        Reading::Transmitter(_) => TRANSMITTER_KIND as u16,
-        Reading::Signal(s, n) => kind_of_words(s.network.message_type, n),
+    Head {
+        kind: kind_at(r, 0),
+        number: wire::u32_at(r, NUMBER_AT),
     }
 }
 
-// The kind that carries a Signal of this message type with a body of n bytes, or `NO_KIND`.
-fn kind_of_words(message_type: u8, n: u16) -> u16
-    ensures { λ r. ⌜ r ≡ kindOfWords «message_type» n ⌝ }
+// Writes a head from the start of `out`.
+pub(crate) fn put_head(out: &mut [u8], head: Head)
+    requires { ⌜ headSize ≤ length (now out) ⌝ }
+    ensures { λ _. ⌜ now (out .exit) ≡ splice 0 (headBytes head) (now (out .entry)) ⌝ }
 {
-    if message_type != 0 {
-        return NO_KIND;
-    }
-    if n < BODY_HEADER {
-        return 0;
-    }
-    (n - BODY_HEADER) / WORD_BYTES
-}
-
-// Whether refusal 20 applies.
-fn unknown_kind(r: &[u8]) -> bool
-    ensures { λ b. ⌜ b ≡ unknownKind (now (r .entry)) ⌝ }
-{
-    if r.len() == 0 {
-        return false;
-    }
-    is_unknown(wire::u8_at(r, 0))
-}
-
-// Whether refusal 21 applies.
-fn wrong_size(r: &[u8]) -> bool
-    ensures { λ b. ⌜ b ≡ wrongSize (now (r .entry)) ⌝ }
-{
-    if r.len() == 0 {
-        return true;
-    }
-    wire::no(r.len() == record_size(wire::u8_at(r, 0)))
+    wire::put_u8(out, 0, head.kind);
+    wire::put_u32(out, NUMBER_AT, head.number);
 }
 
 // Whether a record is a reply.
 fn is_reply(r: &[u8]) -> bool
-    requires { ⌜ 5 ≤ length (now r) ⌝ }
+    requires { ⌜ headSize ≤ length (now r) ⌝ }
     ensures { λ b. ⌜ b ≡ isReply (now (r .entry)) ⌝ }
 {
-    wire::u8_at(r, 0) == REPLY_KIND
-}
-
-// Whether refusal 25 applies.
-fn last_of_all(r: &[u8]) -> bool
-    requires { ⌜ 5 ≤ length (now r) ⌝ }
-    ensures { λ b. ⌜ b ≡ lastOfAll (now (r .entry)) ⌝ }
-{
-    wire::both(wire::no(is_reply(r)), wire::u32_at(r, 1) == LAST_NUMBER)
+    kinds::is_nothing(kinds::load(kind_at(r, 0)))
 }
 
 // Whether refusal 22 applies.
 fn wrong_carried(r: &[u8]) -> bool
-    requires { ⌜ 5 ≤ length (now r) ⌝ }
+    requires { ⌜ headSize ≤ length (now r) ⌝ }
     ensures { λ b. ⌜ b ≡ wrongCarried (now (r .entry)) ⌝ }
 {
     if is_reply(r) {
         return false;
     }
-    let kind = wire::u8_at(r, 0) as u16;
+    let kind = kind_at(r, 0) as u16;
     let pdu = &r[HEAD_SIZE..];
-    wire::no(kind_of(pdu::read_written(pdu)) == kind)
+    wire::no(kinds::kind_of(pdu::read_written(pdu)) == kind)
 }
 
-// The number of the first broken rule of a check, or 0.
-pub(crate) fn check_refusal(r: &[u8]) -> u8
-    ensures { λ n. ⌜ n ≡ first (checkRules (now (r .entry))) ⌝ }
+// The number of the first broken rule on a record's form, or 0.
+fn form_refusal(r: &[u8]) -> u8
+    ensures { λ n. ⌜ n ≡ first (formRules (now (r .entry))) ⌝ }
 {
-    if unknown_kind(r) {
-        return 20;
-    }
-    if wrong_size(r) {
+    if r.len() == 0 {
         return 21;
     }
-    if last_of_all(r) {
+    let kind = kind_at(r, 0);
+    if kinds::is_unknown(kinds::load(kind)) {
+        return 20;
+    }
+    if r.len() != kinds::record_size(kind) {
+        return 21;
+    }
+    0
+}
+
+// The number of the first broken rule on a record's PDU, or 0; a reply has none.
+fn pdu_refusal(r: &[u8]) -> u8
+    requires { ⌜ headSize ≤ length (now r) ⌝ }
+    ensures { λ n. ⌜ n ≡ first (pduRules (now (r .entry))) ⌝ }
+{
+    if is_reply(r) {
+        return 0;
+    }
+    let head = head_of(r);
+    if head.number == LAST_NUMBER {
         return 25;
     }
     if wrong_carried(r) {
@@ -146,20 +105,30 @@ pub(crate) fn check_refusal(r: &[u8]) -> u8
     0
 }
 
+// The number of the first broken rule of a check, or 0.
+fn check_refusal(r: &[u8]) -> u8
+    ensures { λ n. ⌜ n ≡ first (checkRules (now (r .entry))) ⌝ }
+{
+    let n = form_refusal(r);
+    if n != 0 {
+        return n;
+    }
+    pdu_refusal(r)
+}
+
 // The number of the first broken rule of taking a reply, or 0.
 pub(crate) fn reply_refusal(near: Near, r: &[u8]) -> u8
     ensures { λ n. ⌜ n ≡ first (replyRules near (now (r .entry))) ⌝ }
 {
-    if unknown_kind(r) {
-        return 20;
-    }
-    if wrong_size(r) {
-        return 21;
+    let n = form_refusal(r);
+    if n != 0 {
+        return n;
     }
     if wire::no(is_reply(r)) {
         return 29;
     }
-    if near.accepted < wire::u32_at(r, 1) {
+    let head = head_of(r);
+    if near.accepted < head.number {
         return 27;
     }
     0
@@ -169,22 +138,18 @@ pub(crate) fn reply_refusal(near: Near, r: &[u8]) -> u8
 pub(crate) fn arrival_refusal(r: &[u8], reply_room: usize, room: usize) -> u8
     ensures { λ n. ⌜ n ≡ first (arrivalRules (now (r .entry)) «reply_room» room) ⌝ }
 {
-    if unknown_kind(r) {
-        return 20;
-    }
-    if wrong_size(r) {
-        return 21;
+    let form = form_refusal(r);
+    if form != 0 {
+        return form;
     }
     if is_reply(r) {
         return 29;
     }
-    if last_of_all(r) {
-        return 25;
+    let pdu = pdu_refusal(r);
+    if pdu != 0 {
+        return pdu;
     }
-    if wrong_carried(r) {
-        return 22;
-    }
-    if wire::either(reply_room < HEAD_SIZE, room < LEAST_OUTPUT) {
+    if wire::either(reply_room < HEAD_SIZE, room < kinds::LONGEST_PDU) {
         return 16;
     }
     0
@@ -198,17 +163,18 @@ pub fn check(received: &[u8]) -> Checked
     if n != 0 {
         return Checked::Refused(n);
     }
-    let number = wire::u32_at(received, 1);
+    let head = head_of(received);
+    let size = received.len() as u16;
     if is_reply(received) {
         Checked::Reply {
-            number,
-            size: received.len() as u16,
+            number: head.number,
+            size,
         }
     } else {
         Checked::Pdu {
-            kind: wire::u8_at(received, 0),
-            number,
-            size: received.len() as u16,
+            kind: head.kind,
+            number: head.number,
+            size,
         }
     }
 }

@@ -1,4 +1,4 @@
--- `bench::run_all` is safe and ends: each line takes a byte at least, so there are no more lines than bytes.
+-- `bench::run_all` is safe and ends. Each line takes a byte at least: the lines are no more than the bytes behind them, and less is left each time.
 -- Assumes nothing.
 use Prim.Native.Nat.{_-_, _≤_}
 use lib.ListN.{length}

@@ -21,13 +21,15 @@ mul-result c = search needs
 
 returns : tie.Need-returns
 returns c =
-    let given = c .before .before .before .args in
-    omega (arith, c .before .reading-refusal .ensures, refusal-read (now (given .bytes)), refused-size (now (given .bytes)) (λ e. c .if1 .taken (c .before .reading-refusal .ensures ∙ e)))
+    let bytes = now (c .before .before .before .args .bytes) in
+    let refused = c .before .reading-refusal .ensures in
+    omega (arith, refused, refusal-read bytes, refused-size bytes (λ e. c .if1 .taken (refused ∙ e)))
 
 returns-2 : tie.Need-returns-2
 returns-2 c =
-    let given = c .before .before .before .args in
-    omega (arith, refusal-read (now (given .bytes)), (sym (c .before .reading-refusal .ensures) ∙ c .if1 .left), taken-size (now (given .bytes)) (sym (c .before .reading-refusal .ensures) ∙ c .if1 .left))
+    let bytes = now (c .before .before .before .args .bytes) in
+    let taken = sym (c .before .reading-refusal .ensures) ∙ c .if1 .left in
+    omega (arith, refusal-read bytes, taken, taken-size bytes taken)
 
 pub altuvrin-datagram-spec : {M : Type 1} → statement M
 altuvrin-datagram-spec =

@@ -21,7 +21,9 @@ list-one-requires : tie.Need-list-one-requires Inv-loop μ-loop
 list-one-requires c κs = search needs
 
 same-length : tie.Need-same-length Inv-loop μ-loop
-same-length c = c .before .before .before .list-one .kept .0 ∙ c .before .before .before .before .before .before .loop .inv
+same-length c =
+    let listed = c .before .before .before in
+    listed .list-one .kept .0 ∙ listed .before .before .before .loop .inv
 
 returns : tie.Need-returns Inv-loop μ-loop
 returns c = search needs
@@ -33,7 +35,9 @@ loop-less : tie.Need-loop-less Inv-loop μ-loop
 loop-less c = omega arith
 
 loop-again : tie.Need-loop-again Inv-loop μ-loop
-loop-again c = c .before .before .before .list-one .kept .0 ∙ c .before .before .before .before .before .before .loop .inv
+loop-again c =
+    let listed = c .before .before .before in
+    listed .list-one .kept .0 ∙ listed .before .before .before .loop .inv
 
 same-length-2 : tie.Need-same-length-2 Inv-loop μ-loop
 same-length-2 c = c .before .loop .inv

@@ -65,7 +65,9 @@ slice-reshare-prefix-check : tie.Need-slice-reshare-prefix-check
 slice-reshare-prefix-check c = search needs
 
 slice-aggregate-check : tie.Need-slice-aggregate-check
-slice-aggregate-check c = sym (length-take-le (c .before .before .before .before .before .read-rest .result) (c .before .before .before .before .before .read-rest .last .0) (omega arith))
+slice-aggregate-check c =
+    let read = c .before .before .before .before .before in
+    sym (length-take-le (read .read-rest .result) (read .read-rest .last .0) (omega arith))
 
 check-requires : tie.Need-check-requires
 check-requires c κs = search needs

@@ -14,6 +14,10 @@ Inv-loop buf₀ end next₀ buf next = length buf ≡ length buf₀
 abbrev μ-loop : tie.MeasureT-loop
 μ-loop buf₀ end next₀ buf next = end - next
 
+-- the read of a turn, where it brought bytes
+abbrev read-of : tie.After-known-told Inv-loop μ-loop → tie.After-read-part Inv-loop μ-loop
+read-of c = c .before .before .before .before .before
+
 loop-holds : tie.Need-loop-holds Inv-loop μ-loop
 loop-holds c = refl
 
@@ -24,7 +28,9 @@ enum-told : tie.Need-enum-told Inv-loop μ-loop
 enum-told c = search needs
 
 same-length : tie.Need-same-length Inv-loop μ-loop
-same-length c = c .before .before .before .before .read-part .kept .0 ∙ c .before .before .before .before .before .before .before .loop .inv
+same-length c =
+    let read = c .before .before .before .before in
+    read .read-part .kept .0 ∙ read .before .before .before .loop .inv
 
 returns : tie.Need-returns Inv-loop μ-loop
 returns c = search needs
@@ -33,7 +39,9 @@ enum-known-n : tie.Need-enum-known-n Inv-loop μ-loop
 enum-known-n c = search needs
 
 same-length-2 : tie.Need-same-length-2 Inv-loop μ-loop
-same-length-2 c = c .before .before .before .before .before .before .read-part .kept .0 ∙ c .before .before .before .before .before .before .before .before .before .loop .inv
+same-length-2 c =
+    let read = read-of (c .before) in
+    read .read-part .kept .0 ∙ read .before .before .before .loop .inv
 
 returns-2 : tie.Need-returns-2 Inv-loop μ-loop
 returns-2 c = search needs
@@ -42,7 +50,9 @@ sub-if2 : tie.Need-sub-if2 Inv-loop μ-loop
 sub-if2 c = omega arith
 
 same-length-3 : tie.Need-same-length-3 Inv-loop μ-loop
-same-length-3 c = c .before .before .before .before .before .before .before .read-part .kept .0 ∙ c .before .before .before .before .before .before .before .before .before .before .loop .inv
+same-length-3 c =
+    let read = read-of (c .before .before) in
+    read .read-part .kept .0 ∙ read .before .before .before .loop .inv
 
 returns-3 : tie.Need-returns-3 Inv-loop μ-loop
 returns-3 c = search needs
@@ -54,7 +64,9 @@ loop-less : tie.Need-loop-less Inv-loop μ-loop
 loop-less c = omega arith
 
 loop-again : tie.Need-loop-again Inv-loop μ-loop
-loop-again c = c .before .before .before .before .before .before .before .read-part .kept .0 ∙ c .before .before .before .before .before .before .before .before .before .before .loop .inv
+loop-again c =
+    let read = read-of (c .before .before) in
+    read .read-part .kept .0 ∙ read .before .before .before .loop .inv
 
 same-length-4 : tie.Need-same-length-4 Inv-loop μ-loop
 same-length-4 c = c .before .loop .inv

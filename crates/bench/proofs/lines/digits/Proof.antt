@@ -1,4 +1,4 @@
--- `bench::lines::digits` is safe and ends: a value that grows has room for a digit.
+-- `bench::lines::digits` is safe and ends. The place moves on by one; a value that grows was tested to have room for a digit.
 -- Assumes nothing.
 use Prim.Native.Nat.{_-_}
 use lib.ListN.{length}

@@ -1,4 +1,4 @@
--- `bench::lines::first` is safe: the part lies within the bytes.
+-- `bench::lines::first` is safe. The part that it answers has `n` bytes, since there are as many.
 -- Assumes nothing.
 use lib.ListN.{length-take}
 use native.Mathlib.Omega.{arith}

@@ -1,4 +1,4 @@
--- `bench::stations::hear` ends: it counts its turns.
+-- `bench::stations::hear` is safe and ends. It counts its turns, and hearing takes every station.
 -- Assumes nothing.
 use Prim.Native.Nat.{_-_}
 use native.Mathlib.Omega.{arith}

@@ -1,4 +1,4 @@
--- `bench::stations::with_units` ends: it counts the units.
+-- `bench::stations::with_units` is safe and ends. It counts the units up to their number.
 -- Assumes nothing.
 use Prim.Native.Nat.{_-_}
 use native.Mathlib.Omega.{arith}

@@ -1,56 +1,37 @@
--- `replay::text::decimal` is safe and ends: the value stays at most `most`.
+-- `replay::text::decimal` is safe and ends, and answers no number above `most`. That holds of 0, and of what each digit makes of the number.
 -- Assumes nothing.
 use Prim.Native.Nat.{_-_, _≤_}
 use lib.ListN.{length}
-use native.Mathlib.Omega.{arith}
 use borrow.Author.Needs.{needs}
 use Rattle.replay.proofs.text.decimal.Statement.{statement}
 use Rattle.replay.proofs.text.decimal.Tie as tie
 
 abbrev Inv-loop : tie.InvT-loop
-Inv-loop text most value₀ i₀ value i = value ≤ most
+Inv-loop text most n₀ i₀ n i = n .value ≤ most
 
 abbrev μ-loop : tie.MeasureT-loop
-μ-loop text most value₀ i₀ value i = length text - i
-
-returns : tie.Need-returns Inv-loop μ-loop
-returns c = search needs
+μ-loop text most n₀ i₀ n i = length text - i
 
 loop-holds : tie.Need-loop-holds Inv-loop μ-loop
 loop-holds c = search needs
 
-shared-slice-read-decimal-digit : tie.Need-shared-slice-read-decimal-digit Inv-loop μ-loop
-shared-slice-read-decimal-digit c = search needs
+shared-slice-read-grown : tie.Need-shared-slice-read-grown Inv-loop μ-loop
+shared-slice-read-grown c = search needs
 
-decimal-digit-requires : tie.Need-decimal-digit-requires Inv-loop μ-loop
-decimal-digit-requires c κs = search needs
-
-returns-2 : tie.Need-returns-2 Inv-loop μ-loop
-returns-2 c = search needs
-
-returns-3 : tie.Need-returns-3 Inv-loop μ-loop
-returns-3 c = search needs
-
-returns-4 : tie.Need-returns-4 Inv-loop μ-loop
-returns-4 c = search needs
-
-mul-value : tie.Need-mul-value Inv-loop μ-loop
-mul-value c = omega arith
-
-add-value : tie.Need-add-value Inv-loop μ-loop
-add-value c = omega arith
+grown-requires : tie.Need-grown-requires Inv-loop μ-loop
+grown-requires c κs = search needs
 
 add-i : tie.Need-add-i Inv-loop μ-loop
-add-i c = omega arith
+add-i c = search needs
 
 loop-less : tie.Need-loop-less Inv-loop μ-loop
-loop-less c = omega arith
+loop-less c = search needs
 
 loop-again : tie.Need-loop-again Inv-loop μ-loop
-loop-again c = omega arith
+loop-again c = search needs
 
-returns-5 : tie.Need-returns-5 Inv-loop μ-loop
-returns-5 c = search needs
+returns : tie.Need-returns Inv-loop μ-loop
+returns c = search needs
 
 pub decimal-spec : {M : Type 1} → statement M
 decimal-spec =
@@ -58,16 +39,10 @@ decimal-spec =
     (tie.spec
     Inv-loop
     μ-loop
-    returns
     loop-holds
-    shared-slice-read-decimal-digit
-    decimal-digit-requires
-    returns-2
-    returns-3
-    returns-4
-    mul-value
-    add-value
+    shared-slice-read-grown
+    grown-requires
     add-i
     loop-less
     loop-again
-    returns-5)
+    returns)

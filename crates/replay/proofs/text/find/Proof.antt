@@ -1,17 +1,16 @@
--- `replay::text::find` is safe and ends, and answers a place of the text or its length.
+-- `replay::text::find` is safe and ends, and answers no place before `at`. The place starts there and moves on by one.
 -- Assumes nothing.
 use Prim.Native.Nat.{_-_, _≤_}
 use lib.ListN.{length}
-use native.Mathlib.Omega.{arith}
 use borrow.Author.Needs.{needs}
 use Rattle.replay.proofs.text.find.Statement.{statement}
 use Rattle.replay.proofs.text.find.Tie as tie
 
 abbrev Inv-loop : tie.InvT-loop
-Inv-loop text byte i₀ i = i ≤ length text
+Inv-loop text at byte i₀ i = at ≤ i
 
 abbrev μ-loop : tie.MeasureT-loop
-μ-loop text byte i₀ i = length text - i
+μ-loop text at byte i₀ i = length text - i
 
 loop-holds : tie.Need-loop-holds Inv-loop μ-loop
 loop-holds c = search needs
@@ -23,10 +22,10 @@ returns : tie.Need-returns Inv-loop μ-loop
 returns c = search needs
 
 add-i : tie.Need-add-i Inv-loop μ-loop
-add-i c = omega arith
+add-i c = search needs
 
 loop-less : tie.Need-loop-less Inv-loop μ-loop
-loop-less c = omega arith
+loop-less c = search needs
 
 loop-again : tie.Need-loop-again Inv-loop μ-loop
 loop-again c = search needs

@@ -1,7 +1,6 @@
--- `replay::units::show_places` is safe and ends: it counts sixteen places.
+-- `replay::units::show_places` is safe and ends. The loop counts the places; each is looked at by a call that takes every number.
 -- Assumes nothing.
 use Prim.Native.Nat.{_-_}
-use native.Mathlib.Omega.{arith}
 use borrow.Author.Needs.{needs}
 use Rattle.replay.proofs.units.show_places.Statement.{statement}
 use Rattle.replay.proofs.units.show_places.Tie as tie
@@ -19,10 +18,10 @@ show-place-requires : tie.Need-show-place-requires Inv-loop μ-loop
 show-place-requires c κs = search needs
 
 add-i : tie.Need-add-i Inv-loop μ-loop
-add-i c = omega arith
+add-i c = search needs
 
 loop-less : tie.Need-loop-less Inv-loop μ-loop
-loop-less c = omega arith
+loop-less c = search needs
 
 loop-again : tie.Need-loop-again Inv-loop μ-loop
 loop-again c = tt

@@ -2,9 +2,9 @@
 -- Assumes nothing.
 use mathlib.Core.Path.{sym, _∙_}
 use native.Mathlib.Omega.{arith}
-use borrow.Author.Needs.{needs}
 use Rattle.trunk.specs.Far.{countAfter}
 use Rattle.trunk.proofs.EndLaws.{next-below}
+use borrow.Author.Needs.{needs}
 use Rattle.trunk.proofs.far_end.count_after.Statement.{statement}
 use Rattle.trunk.proofs.far_end.count_after.Tie as tie
 

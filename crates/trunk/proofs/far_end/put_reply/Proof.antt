@@ -1,26 +1,19 @@
--- `put_reply` meets its contract: the two puts side by side are the reply's bytes.
+-- `put_reply` meets its contract: a reply is its head alone.
 -- Assumes nothing.
-use borrow.Author.Needs.{needs}
 use Rattle.trunk.specs.Record.{recordOf}
+use borrow.Author.Needs.{needs}
 use Rattle.trunk.proofs.far_end.put_reply.Statement.{statement}
 use Rattle.trunk.proofs.far_end.put_reply.Tie as tie
 
-put-u8-requires : tie.Need-put-u8-requires
-put-u8-requires c κs = search needs
-
-put-u32-requires : tie.Need-put-u32-requires
-put-u32-requires c κs = search needs
+put-head-requires : tie.Need-put-head-requires
+put-head-requires c κs = search needs
 
 same-length : tie.Need-same-length
 same-length c = search needs
 
 returns : tie.Need-returns
 unfolding recordOf
-returns c =
-    rw (
-      c .before .before .put-u32 .ensures,
-      c .before .before .before .before .before .before .put-u8 .ensures,
-    )
+returns c = c .before .before .put-head .ensures
 
 pub put-reply-spec : {M : Type 1} → statement M
-put-reply-spec = tie.close (tie.spec put-u8-requires put-u32-requires same-length returns)
+put-reply-spec = tie.close (tie.spec put-head-requires same-length returns)

@@ -8,16 +8,36 @@ use lib.ListN.{length, take, drop}
 use denote.Ref.{now}
 use native.Mathlib.Nat.{add-sub-cancel-left}
 use native.Mathlib.Omega.{arith}
-use borrow.Author.Needs.{needs}
 use Rattle.wire.specs.First.{first}
-use Rattle.pdu.proofs.Carried.{body-there}
-use Rattle.pdu.specs.Writing.{left, signalWriting, signalBytes}
-use Rattle.pdu.specs.Reading.{bodyOf}
+use Rattle.pdu.specs.Numbers.{bodyStart}
 use Rattle.pdu.specs.Records.{signalSize}
-use Rattle.trunk.specs.Kinds.{kindOf}
+use Rattle.pdu.specs.Reading.{reading, bodyOf}
+use Rattle.pdu.specs.Writing.{left, signalWriting, signalBytes}
+use Rattle.pdu.specs.declared.Transmitter.{Transmitter}
+use Rattle.pdu.specs.declared.Signal.{Signal}
+use Rattle.pdu.specs.declared.Reading.{Reading}
+use Rattle.pdu.proofs.Carried.{body-there}
+use Rattle.trunk.specs.Kinds.{kindOf, longestPdu}
 use Rattle.trunk.proofs.WriteLaws.{carried-size, writes-read-transmitter, writes-read-signal}
+use borrow.Author.Needs.{needs}
 use Rattle.trunk.proofs.near_end.put_pdu.Statement.{statement}
 use Rattle.trunk.proofs.near_end.put_pdu.Tie as tie
+
+-- the datagram; and, where it is a Signal: its fields, its body's size, and that this is what reading answers
+abbrev D : tie.Start → List ℕ
+D s = now (s .args .datagram)
+
+abbrev t₃ : tie.After-known-told2 → tie.Start
+t₃ c = c .before .before .before .before .before
+
+abbrev signal : tie.After-known-told2 → Signal
+signal c = c .before .answer2 .given .0 .0
+
+abbrev size : tie.After-known-told2 → ℕ
+size c = c .before .answer2 .given .0 .1 .0
+
+signal-read : (c : tie.After-known-told2) → reading (D (t₃ c)) ≡ Reading.Signal (signal c) (size c)
+signal-read c = sym (t₃ c .pre .1) ∙ c .before .answer2 .given .1
 
 enum-told : tie.Need-enum-told
 enum-told c = search needs
@@ -44,43 +64,45 @@ part-write-signal-start : tie.Need-part-write-signal-start
 part-write-signal-start c = search needs
 
 part-write-signal-end : tie.Need-part-write-signal-end
-part-write-signal-end c =
-    let given = c .before .before .before .before .before .args in
-    let signal = c .before .answer2 .given .0 .0 in
-    let size = c .before .answer2 .given .0 .1 .0 in
-    let read = sym (c .before .before .before .before .before .pre .1) ∙ c .before .answer2 .given .1 in
-    omega (arith, body-there (now (given .datagram)) signal size read .0)
+part-write-signal-end c = omega (arith, body-there (D (t₃ c)) (signal c) (size c) (signal-read c) .0)
 
 write-signal-requires : tie.Need-write-signal-requires
 write-signal-requires c κs = search needs
 
 returns : tie.Need-returns
-returns c = elim (c .before .before .before .before .pre .2 (ap kindOf (sym (c .before .before .before .before .pre .1) ∙ c .enum-told .given .1))) [ ]
+returns c =
+    let s = c .before .before .before .before in
+    absurd (s .pre .2 (ap kindOf (sym (s .pre .1) ∙ c .enum-told .given .1)))
 
 same-length : tie.Need-same-length
 same-length c = search needs
 
 returns-2 : tie.Need-returns-2
 returns-2 c =
-    let given = c .before .before .before .before .before .before .before .before .before .args in
-    let read = sym (c .before .before .before .before .before .before .before .before .before .pre .1) ∙ c .before .before .before .before .before .answer .given .1 in
-    c .before .before .write-transmitter .ensures .1 .1 ∙ writes-read-transmitter (now (given .datagram)) (c .before .before .before .before .before .answer .given .0 .0) (now (given .out)) read (omega arith)
+    let at = c .before .before in
+    let found = at .before .before .before in
+    let s = found .before .before .before .before in
+    let fields : Transmitter = found .answer .given .0 .0 in
+    let read = sym (s .pre .1) ∙ found .answer .given .1 in
+    at .write-transmitter .ensures .1 .1 ∙ writes-read-transmitter (D s) fields (now (s .args .out)) read (omega arith)
 
 same-length-2 : tie.Need-same-length-2
 same-length-2 c = search needs
 
 returns-3 : tie.Need-returns-3
 returns-3 c =
-    let given = c .before .before .before .before .before .before .before .before .before .before .args in
-    let signal = c .before .before .before .before .before .before .answer2 .given .0 .0 in
-    let size = c .before .before .before .before .before .before .answer2 .given .0 .1 .0 in
-    let read = sym (c .before .before .before .before .before .before .before .before .before .before .pre .1) ∙ c .before .before .before .before .before .before .answer2 .given .1 in
-    let body : take (52 + size - 52) (drop 52 (now (given .datagram))) ≡ bodyOf (now (given .datagram)) =
-    ap (λ (m : ℕ). take m (drop 52 (now (given .datagram)))) (add-sub-cancel-left 52 size) ∙ sym (body-there (now (given .datagram)) signal size read .1) in
-    let small : signalSize size ≤ 180 = carried-size (now (given .datagram)) signal size read (c .before .before .before .before .before .before .before .before .before .before .pre .2) in
-    c .before .before .write-signal .ensures .1 .1
-    ∙ ap (λ (b : List ℕ). left (first (signalWriting signal (length b) (length (now (given .out))))) (signalBytes signal b) (now (given .out))) body
-    ∙ writes-read-signal (now (given .datagram)) signal size (now (given .out)) read (omega arith)
+    let at = c .before .before in
+    let found = at .before .before .before in
+    let s = t₃ found in
+    let n : ℕ = size found in
+    let out : List ℕ = now (s .args .out) in
+    let there = body-there (D s) (signal found) n (signal-read found) in
+    let body : take (bodyStart + n - bodyStart) (drop bodyStart (D s)) ≡ bodyOf (D s) =
+    ap (λ (m : ℕ). take m (drop bodyStart (D s))) (add-sub-cancel-left bodyStart n) ∙ sym (there .1) in
+    let small : signalSize n ≤ longestPdu = carried-size (D s) (signal found) n (signal-read found) (s .pre .2) in
+    at .write-signal .ensures .1 .1
+    ∙ ap (λ (b : List ℕ). left (first (signalWriting (signal found) (length b) (length out))) (signalBytes (signal found) b) out) body
+    ∙ writes-read-signal (D s) (signal found) n out (signal-read found) (omega arith)
 
 pub put-pdu-spec : {M : Type 1} → statement M
 put-pdu-spec =

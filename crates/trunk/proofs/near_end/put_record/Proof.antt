@@ -1,24 +1,26 @@
 -- `put_record` meets its contract: the part lent on comes back as a splice of the row (`part-splice`), and head and PDU side by side are the
 -- record (`record-splice`).
 -- Assumes nothing.
-use Prim.Native.Nat.{_-_, ℕ}
+use Prim.Native.Nat.{ℕ, _-_}
 use mathlib.Core.List.{List, _++_}
 use mathlib.Core.Path.{_≡_, ap, _∙_}
 use lib.ListN.{length, take, drop}
 use denote.Ref.{now}
 use native.Mathlib.Omega.{arith}
-use borrow.Author.Needs.{needs}
-use Rattle.wire.specs.Bytes.{splice, big}
+use Rattle.wire.specs.Bytes.{splice}
 use Rattle.pdu.specs.Writing.{writtenForm}
+use Rattle.trunk.specs.Head.{headSize}
 use Rattle.trunk.proofs.WriteLaws.{part-splice, carried-short, record-splice}
+use borrow.Author.Needs.{needs}
 use Rattle.trunk.proofs.near_end.put_record.Statement.{statement}
 use Rattle.trunk.proofs.near_end.put_record.Tie as tie
 
-put-u8-requires : tie.Need-put-u8-requires
-put-u8-requires c κs = search needs
+-- where the call begins
+abbrev start : tie.After-put-head → tie.Start
+start c = c .before .before .before .before
 
-put-u32-requires : tie.Need-put-u32-requires
-put-u32-requires c κs = search needs
+put-head-requires : tie.Need-put-head-requires
+put-head-requires c κs = search needs
 
 sub-put-pdu : tie.Need-sub-put-pdu
 sub-put-pdu c = search needs
@@ -37,19 +39,23 @@ same-length c = search needs
 
 returns : tie.Need-returns
 returns c =
-    let given = c .before .before .before .before .before .before .before .before .before .before .before .before .before .before .args in
-    let long : length (c .before .before .before .before .before .before .put-u32 .last .0) ≡ length (now (given .row)) = c .before .before .before .before .before .before .put-u32 .kept .0 ∙ c .before .before .before .before .before .before .before .before .before .before .put-u8 .kept .0 in
-    ap (λ (l : List ℕ). take 5 (c .before .before .before .before .before .before .put-u32 .last .0) ++ (l ++ drop (length (c .before .before .before .before .before .before .put-u32 .last .0) - 5) (drop 5 (c .before .before .before .before .before .before .put-u32 .last .0)))) (c .before .before .put-pdu .ensures)
-    ∙ part-splice 5 (length (c .before .before .before .before .before .before .put-u32 .last .0) - 5) (writtenForm (now (given .datagram))) (c .before .before .before .before .before .before .put-u32 .last .0) (omega arith) (omega (arith, carried-short (now (given .datagram)) (c .before .before .before .before .before .before .before .before .before .before .before .before .before .before .pre .2)))
-    ∙ ap (splice 5 (writtenForm (now (given .datagram)))) (c .before .before .before .before .before .before .put-u32 .ensures ∙ ap (splice 1 (big 4 (given .number))) (c .before .before .before .before .before .before .before .before .before .before .put-u8 .ensures))
-    ∙ record-splice (given .kind) (given .number) (writtenForm (now (given .datagram))) (now (given .row))
+    let at = c .before .before in
+    let headed = at .before .before .before .before in
+    let s = start headed in
+    let row : List ℕ = headed .put-head .last .0 in
+    let pdu : List ℕ = writtenForm (now (s .args .datagram)) in
+    let long : length row ≡ length (now (s .args .row)) = headed .put-head .kept .0 in
+    let n : ℕ = length row - headSize in
+    ap (λ (l : List ℕ). take headSize row ++ (l ++ drop n (drop headSize row))) (at .put-pdu .ensures)
+    ∙ part-splice headSize n pdu row (omega arith) (omega (arith, carried-short (now (s .args .datagram)) (s .pre .2)))
+    ∙ ap (splice headSize pdu) (headed .put-head .ensures)
+    ∙ record-splice (s .args .head) pdu (now (s .args .row))
 
 pub put-record-spec : {M : Type 1} → statement M
 put-record-spec =
     tie.close
     (tie.spec
-    put-u8-requires
-    put-u32-requires
+    put-head-requires
     sub-put-pdu
     part-put-pdu-start
     part-put-pdu-end

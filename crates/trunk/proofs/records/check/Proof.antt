@@ -1,19 +1,35 @@
--- `check` meets its contract: a refusal number other than 0 is the answer; else the record has a head and is short (`checked-head`, `checked-short`).
+-- `check` meets its contract: a refusal number other than 0 is the answer; else the record has the right form, and its head is read.
 -- Assumes nothing.
+use mathlib.Core.Path.{_≡_, sym, ap, _∙_}
+use mathlib.Core.List.{List}
 use Prim.Native.Nat.{ℕ}
-use mathlib.Core.Path.{sym, ap, ap₂, _∙_}
 use lib.ListN.{length}
 use denote.Ref.{now}
 use native.Mathlib.Omega.{arith}
 use borrow.Author.Tests.{eq-eqb, ne-eqb}
-use borrow.Author.Needs.{needs}
 use Rattle.wire.specs.First.{first}
-use Rattle.trunk.proofs.EndLaws.{checked-short}
-use Rattle.trunk.specs.declared.Checked.the-variants.{Refused, Reply, Pdu}
-use Rattle.trunk.proofs.KindLaws.{checked-head}
+use lib.Dec.{eqb}
+use mathlib.Core.Bool.{Bool, true}
 use Rattle.trunk.specs.Record.{checkRules, checked}
+use Rattle.trunk.specs.declared.Head.{Head}
+use Rattle.trunk.specs.declared.Checked.the-variants.{Refused, Reply, Pdu}
+use Rattle.trunk.proofs.EndLaws.{Formed, checked-form}
+use borrow.Author.Needs.{needs}
 use Rattle.trunk.proofs.records.check.Statement.{statement}
 use Rattle.trunk.proofs.records.check.Tie as tie
+
+-- the record; where no rule is broken, that is the test of the definition, and the form is right
+abbrev R : tie.After-check-refusal → List ℕ
+R c = now (c .before .before .args .received)
+
+passed : (c : tie.Else1) → first (checkRules (R (c .before))) ≡ 0
+passed c = sym (c .before .check-refusal .ensures) ∙ c .if1 .left
+
+taken : (c : tie.Else1) → eqb (first (checkRules (R (c .before)))) 0 ≡ true
+taken c = eq-eqb _ _ (passed c)
+
+form : (c : tie.Else1) → Formed (R (c .before))
+form c = checked-form (R (c .before)) (passed c)
 
 check-refusal-requires : tie.Need-check-refusal-requires
 check-refusal-requires c κs = search needs
@@ -21,41 +37,31 @@ check-refusal-requires c κs = search needs
 returns : tie.Need-returns
 unfolding checked
 returns c =
-    rw
-    (ne-eqb (first (checkRules (now (c .before .before .before .args .received)))) 0 (λ e. c .if1 .taken (c .before .check-refusal .ensures ∙ e))) (ap Refused (c .before .check-refusal .ensures))
+    let refused = c .before .check-refusal .ensures in
+    rw (ne-eqb (first (checkRules (R (c .before)))) 0 (λ e. c .if1 .taken (refused ∙ e))) (ap Refused refused)
 
-u32-at-requires : tie.Need-u32-at-requires
-u32-at-requires c κs = checked-head (now (c .before .before .before .args .received)) (sym (c .before .check-refusal .ensures) ∙ c .if1 .left)
+head-of-requires : tie.Need-head-of-requires
+head-of-requires c κs = form c .head
+
+cast-size : tie.Need-cast-size
+cast-size c = omega (arith, form (c .before) .short)
 
 is-reply-requires : tie.Need-is-reply-requires
-is-reply-requires c κs = checked-head (now (c .before .before .before .before .args .received)) (sym (c .before .before .check-refusal .ensures) ∙ c .before .if1 .left)
-
-cast-t8 : tie.Need-cast-t8
-cast-t8 c = omega (arith, checked-short (now (c .before .before .before .before .before .before .args .received)) (sym (c .before .before .before .before .check-refusal .ensures) ∙ c .before .before .before .if1 .left))
-
-u8-at-requires : tie.Need-u8-at-requires
-u8-at-requires c κs = omega (arith, checked-head (now (c .before .before .before .before .before .before .args .received)) (sym (c .before .before .before .before .check-refusal .ensures) ∙ c .before .before .before .if1 .left))
-
-cast-t11 : tie.Need-cast-t11
-cast-t11 c = omega (arith, checked-short (now (c .before .before .before .before .before .before .before .args .received)) (sym (c .before .before .before .before .before .check-refusal .ensures) ∙ c .before .before .before .before .if1 .left))
+is-reply-requires c κs = form (c .before) .head
 
 returns-2 : tie.Need-returns-2
 unfolding checked
 returns-2 c =
-    let given = c .before .before .before .before .before .before .args in
-    rw (
-      eq-eqb (first (checkRules (now (given .received)))) 0 (sym (c .before .before .before .before .check-refusal .ensures) ∙ c .before .before .before .if1 .left),
-      sym (c .before .is-reply .ensures) ∙ c .if2 .taken,
-    ) (ap (λ (n : ℕ). Reply n (length (now (given .received)))) (c .before .before .u32-at .ensures))
+    let at = c .before .before in
+    rw (taken (at .before), sym (c .before .is-reply .ensures) ∙ c .if2 .taken)
+    (ap (λ (h : Head). Reply (h .number) (length (R (at .before .before)))) (at .head-of .ensures))
 
 returns-3 : tie.Need-returns-3
 unfolding checked
 returns-3 c =
-    let given = c .before .before .before .before .before .before .before .args in
-    rw (
-      eq-eqb (first (checkRules (now (given .received)))) 0 (sym (c .before .before .before .before .before .check-refusal .ensures) ∙ c .before .before .before .before .if1 .left),
-      sym (c .before .before .is-reply .ensures) ∙ c .before .if2 .left,
-    ) (ap₂ (λ (k n : ℕ). Pdu k n (length (now (given .received)))) (c .u8-at .ensures) (c .before .before .before .u32-at .ensures))
+    let at = c .before .before in
+    rw (taken (at .before), sym (c .before .is-reply .ensures) ∙ c .if2 .left)
+    (ap (λ (h : Head). Pdu (h .kind) (h .number) (length (R (at .before .before)))) (at .head-of .ensures))
 
 pub check-spec : {M : Type 1} → statement M
 check-spec =
@@ -63,10 +69,8 @@ check-spec =
     (tie.spec
     check-refusal-requires
     returns
-    u32-at-requires
+    head-of-requires
+    cast-size
     is-reply-requires
-    cast-t8
-    u8-at-requires
-    cast-t11
     returns-2
     returns-3)

@@ -1,78 +1,37 @@
--- `check_refusal` meets its contract: at each return the tests on the way say that its rule is the first broken one, or that none is.
+-- `check_refusal` meets its contract: a broken rule on the form is the first; where there is none, the rules on the PDU answer.
 -- Assumes nothing.
-use mathlib.Core.Path.{sym, _∙_}
+use mathlib.Core.Path.{_≡_, sym, _∙_}
+use mathlib.Core.List.{List}
+use Prim.Native.Nat.{ℕ}
 use denote.Ref.{now}
+use Rattle.wire.specs.First.{first}
+use Rattle.trunk.specs.Record.{formRules}
+use Rattle.trunk.proofs.EndLaws.{form-first, form-next, formed}
 use borrow.Author.Needs.{needs}
-use Rattle.trunk.proofs.KindLaws.{has-head}
-use Rattle.trunk.specs.Record.{checkRules}
 use Rattle.trunk.proofs.records.check_refusal.Statement.{statement}
 use Rattle.trunk.proofs.records.check_refusal.Tie as tie
 
-unknown-kind-requires : tie.Need-unknown-kind-requires
-unknown-kind-requires c κs = search needs
+-- the record, and that its form is right
+abbrev R : tie.After-form-refusal → List ℕ
+R c = now (c .before .before .args .r)
+
+passed : (c : tie.Else1) → first (formRules (R (c .before))) ≡ 0
+passed c = sym (c .before .form-refusal .ensures) ∙ c .if1 .left
+
+form-refusal-requires : tie.Need-form-refusal-requires
+form-refusal-requires c κs = search needs
 
 returns : tie.Need-returns
-unfolding checkRules
 returns c =
-    rw
-    (sym (c .before .unknown-kind .ensures) ∙ c .if1 .taken)
+    let form = c .before .form-refusal .ensures in
+    form ∙ sym (form-first (R (c .before)) _ (λ e. c .if1 .taken (form ∙ e)))
 
-wrong-size-requires : tie.Need-wrong-size-requires
-wrong-size-requires c κs = search needs
+pdu-refusal-requires : tie.Need-pdu-refusal-requires
+pdu-refusal-requires c κs = formed (R (c .before)) (passed c) .head
 
 returns-2 : tie.Need-returns-2
-unfolding checkRules
-returns-2 c =
-    rw (
-      sym (c .before .before .before .unknown-kind .ensures) ∙ c .before .before .if1 .left,
-      sym (c .before .wrong-size .ensures) ∙ c .if2 .taken,
-    )
-
-last-of-all-requires : tie.Need-last-of-all-requires
-last-of-all-requires c κs = has-head (now (c .before .before .before .before .before .args .r)) (sym (c .before .wrong-size .ensures) ∙ c .if2 .left)
-
-returns-3 : tie.Need-returns-3
-unfolding checkRules
-returns-3 c =
-    rw (
-      sym (c .before .before .before .before .before .unknown-kind .ensures) ∙ c .before .before .before .before .if1 .left,
-      sym (c .before .before .before .wrong-size .ensures) ∙ c .before .before .if2 .left,
-      sym (c .before .last-of-all .ensures) ∙ c .if3 .taken,
-    )
-
-wrong-carried-requires : tie.Need-wrong-carried-requires
-wrong-carried-requires c κs = has-head (now (c .before .before .before .before .before .before .before .args .r)) (sym (c .before .before .before .wrong-size .ensures) ∙ c .before .before .if2 .left)
-
-returns-4 : tie.Need-returns-4
-unfolding checkRules
-returns-4 c =
-    rw (
-      sym (c .before .before .before .before .before .before .before .unknown-kind .ensures) ∙ c .before .before .before .before .before .before .if1 .left,
-      sym (c .before .before .before .before .before .wrong-size .ensures) ∙ c .before .before .before .before .if2 .left,
-      sym (c .before .before .before .last-of-all .ensures) ∙ c .before .before .if3 .left,
-      sym (c .before .wrong-carried .ensures) ∙ c .if4 .taken,
-    )
-
-returns-5 : tie.Need-returns-5
-unfolding checkRules
-returns-5 c =
-    rw (
-      sym (c .before .before .before .before .before .before .before .unknown-kind .ensures) ∙ c .before .before .before .before .before .before .if1 .left,
-      sym (c .before .before .before .before .before .wrong-size .ensures) ∙ c .before .before .before .before .if2 .left,
-      sym (c .before .before .before .last-of-all .ensures) ∙ c .before .before .if3 .left,
-      sym (c .before .wrong-carried .ensures) ∙ c .if4 .left,
-    )
+returns-2 c = c .pdu-refusal .ensures ∙ sym (form-next (R (c .before .before)) _ (passed (c .before)))
 
 pub check-refusal-spec : {M : Type 1} → statement M
 check-refusal-spec =
-    tie.close
-    (tie.spec
-    unknown-kind-requires
-    returns
-    wrong-size-requires
-    returns-2
-    last-of-all-requires
-    returns-3
-    wrong-carried-requires
-    returns-4
-    returns-5)
+    tie.close (tie.spec form-refusal-requires returns pdu-refusal-requires returns-2)

@@ -1,0 +1,150 @@
+// A line of a script, as the call that it asks for.
+use crate::text;
+use text::ROOM;
+
+// A call. Its bytes stand at the start of a buffer; here is how many.
+pub enum Call {
+    // `station LEVEL NET`: makes the far end's station.
+    Station {
+        level: u8,
+        net: u8,
+    },
+    // `store BYTES`: the lent store's length.
+    Store(usize),
+    // `offer HEX`
+    Offer(usize),
+    // `send NUMBER ROOM`
+    Send {
+        number: u32,
+        room: usize,
+    },
+    // `near HEX`: a record arrives at the near end.
+    Near(usize),
+    // `far HEX ROOM REPLYROOM`: a record arrives at the far end.
+    Far {
+        size: usize,
+        room: usize,
+        reply_room: usize,
+    },
+    // `clock T`: the far end's clock.
+    Clock(u64),
+    // A line that cannot be read.
+    Bad,
+}
+
+fn read_station(words: &[u8]) -> Call {
+    let settings = text::decimals(words, u8::MAX as u64, u8::MAX as u64);
+    if settings.good {
+        Call::Station {
+            level: settings.first as u8,
+            net: settings.second as u8,
+        }
+    } else {
+        Call::Bad
+    }
+}
+
+fn read_store(words: &[u8]) -> Call {
+    let size = text::decimal(words, ROOM as u64);
+    if size.good {
+        Call::Store(size.value as usize)
+    } else {
+        Call::Bad
+    }
+}
+
+fn read_send(words: &[u8]) -> Call {
+    let asked = text::decimals(words, u32::MAX as u64, ROOM as u64);
+    if asked.good {
+        Call::Send {
+            number: asked.first as u32,
+            room: asked.second as usize,
+        }
+    } else {
+        Call::Bad
+    }
+}
+
+fn read_clock(words: &[u8]) -> Call {
+    let t = text::decimal(words, u64::MAX);
+    if t.good {
+        Call::Clock(t.value)
+    } else {
+        Call::Bad
+    }
+}
+
+fn read_offer(words: &[u8], given: &mut [u8; ROOM]) -> Call {
+    let n = text::bytes(words, given);
+    if n.good {
+        Call::Offer(n.value as usize)
+    } else {
+        Call::Bad
+    }
+}
+
+fn read_near(words: &[u8], given: &mut [u8; ROOM]) -> Call {
+    let n = text::bytes(words, given);
+    if n.good {
+        Call::Near(n.value as usize)
+    } else {
+        Call::Bad
+    }
+}
+
+fn read_far(words: &[u8], given: &mut [u8; ROOM]) -> Call {
+    let n = text::bytes(text::first_word(words), given);
+    let rooms = text::decimals(text::other_words(words), ROOM as u64, ROOM as u64);
+    if wire::both(n.good, rooms.good) {
+        Call::Far {
+            size: n.value as usize,
+            room: rooms.first as usize,
+            reply_room: rooms.second as usize,
+        }
+    } else {
+        Call::Bad
+    }
+}
+
+// The lines of numbers alone.
+fn read_numbers(word: &[u8], words: &[u8]) -> Call {
+    if check::same(word, b"station") {
+        return read_station(words);
+    }
+    if check::same(word, b"store") {
+        return read_store(words);
+    }
+    if check::same(word, b"send") {
+        return read_send(words);
+    }
+    if check::same(word, b"clock") {
+        return read_clock(words);
+    }
+    Call::Bad
+}
+
+// Reads a line; its bytes, if it has any, into `given`.
+pub fn read(line: &[u8], given: &mut [u8; ROOM]) -> Call {
+    let word = text::first_word(line);
+    let words = text::other_words(line);
+    if check::same(word, b"offer") {
+        return read_offer(words, given);
+    }
+    if check::same(word, b"near") {
+        return read_near(words, given);
+    }
+    if check::same(word, b"far") {
+        return read_far(words, given);
+    }
+    read_numbers(word, words)
+}
+
+// Whether a call may stand behind so many lines: `station` first, `store` perhaps second, then the others.
+pub fn in_place(call: Call, before: u64) -> bool {
+    match call {
+        Call::Station { level: _, net: _ } => before == 0,
+        Call::Store(_) => before == 1,
+        Call::Bad => false,
+        _ => 0 < before,
+    }
+}

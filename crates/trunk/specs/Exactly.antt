@@ -1,0 +1,49 @@
+-- Each answer of each call, exactly when it is given, in plain numbers (01, "The numbers"): a refusal's number is that of the first plain rule
+-- that does not hold, and every other answer is given exactly where all rules hold, with the values that document 01 names.
+use Prim.Native.Nat.{ℕ, _<_, max}
+use mathlib.Core.Path.{_≡_}
+use mathlib.Core.Logic.{_↔_}
+use mathlib.Core.List.{List}
+use lib.ListN.{length, drop}
+use Rattle.wire.specs.Bytes.{num}
+use Rattle.pdu.specs.Plain.{Met, FirstBroken}
+use Rattle.station.specs.Hearing.{heard}
+use Rattle.trunk.specs.Plain.{plainLength, plainRowKind, plainOffer, plainSend, plainReply, plainArrival}
+use Rattle.trunk.specs.declared.Near.{Near}
+use Rattle.trunk.specs.declared.Far.{Far}
+use Rattle.trunk.specs.declared.Offer.{Offer}
+use Rattle.trunk.specs.declared.Offer.the-variants.{Refused as offerRefused, Taken}
+use Rattle.trunk.specs.declared.Sent.{Sent}
+use Rattle.trunk.specs.declared.Sent.the-variants.{Refused as sendRefused, Size}
+use Rattle.trunk.specs.declared.Reply.{Reply}
+use Rattle.trunk.specs.declared.Reply.the-variants.{Refused as replyRefused, Acknowledged}
+use Rattle.trunk.specs.declared.Arrival.{Arrival}
+use Rattle.trunk.specs.declared.Arrival.the-variants.{Refused as arrivalRefused, Delivered, Repeat, Early}
+
+-- "an offer, the number taken"
+pub record OfferExactly (near : Near) (store d : List ℕ) (a : Offer) : Type 0 where
+  pub refused : (n : ℕ) → (a ≡ offerRefused n) ↔ FirstBroken n (plainOffer near store d)
+  pub taken : (i : ℕ) → (a ≡ Taken i) ↔ (Met (plainOffer near store d) × (i ≡ near .accepted))
+
+-- "a send, the size written"
+pub record SendExactly (near : Near) (store : List ℕ) (i room : ℕ) (a : Sent) : Type 0 where
+  pub refused : (n : ℕ) → (a ≡ sendRefused n) ↔ FirstBroken n (plainSend near store i room)
+  pub size : (n : ℕ) → (a ≡ Size n) ↔ (Met (plainSend near store i room) × (n ≡ plainLength (plainRowKind store i)))
+
+-- "a reply, the acknowledged count"
+pub record ReplyExactly (near : Near) (r : List ℕ) (a : Reply) : Type 0 where
+  pub refused : (n : ℕ) → (a ≡ replyRefused n) ↔ FirstBroken n (plainReply near r)
+  pub acknowledged : (n : ℕ) → (a ≡ Acknowledged n) ↔ (Met (plainReply near r) × (n ≡ max (near .acknowledged) (num 4 1 r)))
+
+-- "a record at the far end, delivered (with PDU size and station's answer), repeat or early"
+pub record ArriveExactly (far : Far) (r : List ℕ) (replyRoom room : ℕ) (a : Arrival) : Type 0 where
+  pub refused : (n : ℕ) → (a ≡ arrivalRefused n) ↔ FirstBroken n (plainArrival r replyRoom room)
+  pub delivered :
+      (size answer : ℕ)
+      → (a ≡ Delivered size answer)
+      ↔ (Met (plainArrival r replyRoom room)
+      × (num 4 1 r ≡ far .count)
+      × (size ≡ length (drop 5 r))
+      × (answer ≡ heard (far .station) (drop 5 r) .answer))
+  pub repeat : (a ≡ Repeat) ↔ (Met (plainArrival r replyRoom room) × (num 4 1 r < far .count))
+  pub early : (a ≡ Early) ↔ (Met (plainArrival r replyRoom room) × (far .count < num 4 1 r))
