@@ -15,9 +15,9 @@ use trunk::near_end;
 const UNIT: u16 = 1;
 
 // The store's length, and a reply's.
-const STORE: usize = 1536;
+const STORE: usize = trunk::near_end::STORE_SIZE;
 
-const REPLY: usize = 5;
+const REPLY: usize = trunk::records::HEAD_SIZE;
 
 // Room for any record, and so for any datagram that the trunk carries.
 const ROOM: usize = kinds::LONGEST_RECORD;

@@ -40,6 +40,7 @@ fn transmitter(unit: u16) -> Transmitter {
         country: 0,
         version: 0,
         nomenclature: 0,
+        state: 0,
     };
     let antenna = Antenna {
         x: 0,
@@ -51,7 +52,6 @@ fn transmitter(unit: u16) -> Transmitter {
         pattern: 0,
     };
     let emission = Emission {
-        state: 0,
         frequency: 0,
         bandwidth: 0,
         power: 0,
@@ -107,7 +107,7 @@ fn size(written: Written) -> usize {
 
 // Writes a unit's Transmitter: its size.
 pub fn put_transmitter(unit: u16, out: &mut [u8]) -> usize {
-    size(pdu::write_transmitter(transmitter(unit), out))
+    size(writer::write_transmitter(transmitter(unit), out))
 }
 
 // Writes a Signal of so many words, the first of them a PPLI's: its size.
@@ -118,5 +118,5 @@ pub fn put_ppli(unit: u16, words: usize, out: &mut [u8]) -> usize {
     let mut body = [0u8; BODY];
     body[LABEL_PLACE] = PPLI_LABEL;
     let n = pdu::BODY_HEADER + pdu::WORD_BYTES * words;
-    size(pdu::write_signal(signal(unit), lines::first(&body, n), out))
+    size(writer::write_signal(signal(unit), lines::first(&body, n), out))
 }

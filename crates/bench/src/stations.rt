@@ -3,7 +3,7 @@ use crate::datagrams;
 use crate::lines;
 use station::Station;
 
-const MOST_UNITS: u64 = 16;
+const MOST_UNITS: u64 = station::PLACES as u64;
 
 // A station, and a sum of what its calls answered.
 struct Tally {

@@ -5,7 +5,8 @@ use mathlib.Core.List.{List, [], _∷_, _++_}
 use lib.ListN.{replicate}
 use lib.Dec.{eqb}
 use Rattle.wire.specs.Bytes.{big}
-use Rattle.pdu.specs.Reading.{reading, numberOf, sizeOf}
+use Rattle.pdu.specs.Forms.{sizeOf}
+use Rattle.pdu.specs.Reading.{reading, numberOf}
 use Rattle.station.specs.Units.{fresh, unitsHeld}
 use Rattle.station.specs.Runs.{datagram, time, after}
 use Rattle.pdu.specs.declared.Reading.{Reading}

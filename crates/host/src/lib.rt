@@ -1,6 +1,7 @@
 // The calls of the C host, on numbers and byte slices. Every export of the archive stands in this crate.
 ghost use mathlib.Core.Path.{_≡_};
-ghost use Rattle.pdu.specs.Reading.{reading, numberOf, sizeOf};
+ghost use Rattle.pdu.specs.Forms.{sizeOf};
+ghost use Rattle.pdu.specs.Reading.{reading, numberOf};
 ghost use Rattle.trunk.specs.Record.{checked, numberOfChecked, sizeOfChecked};
 ghost use Rattle.host.specs.Answer.{packed};
 
@@ -12,7 +13,7 @@ const ABOVE: u64 = 4294967296;
 pub extern "C" fn altuvrin_datagram(bytes: &[u8]) -> u64
     ensures { λ r. ⌜ r ≡ packed (numberOf (reading (now (bytes .entry)))) (sizeOf (reading (now (bytes .entry)))) ⌝ }
 {
-    let n = pdu::reading_refusal(bytes);
+    let n = reader::reading_refusal(bytes);
     if n != 0 {
         return n as u64 * ABOVE;
     }

@@ -1,10 +1,7 @@
 -- Laws and theorems of the PDU part that belong to no one function.
 pub mod WordLaws
-pub mod ReadingLaws
-pub mod WritingLaws
-pub mod RuleLaws
-pub mod TakenExactly
-pub mod ByTable
+pub mod Agreement
+pub mod Answers
+pub mod Taken
 pub mod RoundTrip
-pub mod WrittenForm
-pub mod Carried
+pub mod ReadLaws

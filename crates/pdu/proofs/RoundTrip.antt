@@ -1,110 +1,106 @@
--- The two round trips. A taken datagram, written from what was read, is its own bytes with padding zero (`written-back`): its record's values
--- are those that the table reads, and the table writes what it read. A record that the writer takes and whose fields fit their types, written
--- and read, is the same record with the same body (`transmitter-reads-back`, `signal-reads-back`): what is written has the record's values, so
--- it is taken by the table.
+-- The two round trips, for every form at once. A taken datagram, written from what was read, is its own bytes with padding zero (`written-back`): the
+-- record's values are those that the table reads, and the table writes what it read. A record that meets its rules and whose fields fit, written and
+-- read, is the same record with the same body (`reads-back`): what is written has the record's values, so it is taken by the table. So a written form
+-- reads the same and is its own (`written-form`), and is met exactly where the padding is zero (`written-form-exactly`).
 -- Assumes nothing.
-use Prim.Native.Nat.{ℕ, _+_, _-_, _/_, _^_, _<_}
+use Prim.Native.Nat.{ℕ, _+_, _≤_, _<_, _^_}
 use mathlib.Core.Path.{_≡_, refl, sym, ap, ap₂, subst, _∙_}
-use mathlib.Core.Logic.{_⊎_, inl, inr}
-use mathlib.Core.Bool.{true, false}
+use mathlib.Core.Logic.{_↔_}
+use mathlib.Core.Bool.{Bool, true, false}
 use mathlib.Core.List.{List, [], _∷_, _++_, append-nil}
-use lib.ListN.{length, getD, take, drop, replicate, length-drop, List·getD-append}
-use lib.Seq.{take-at, drop-at, length-take-le}
-use borrow.Author.Tests.{eq-eqb, ne-eqb}
+use lib.ListN.{length, take, drop, replicate, length-drop}
+use lib.Seq.{take-all, length-take-le}
+use lib.Dec.{ltb}
+use borrow.Author.Tests.{eq-eqb, le-ltb, ltb-false}
 use native.Mathlib.Omega.{arith}
-use Rattle.wire.specs.Bytes.{num}
-use Rattle.wire.specs.First.{Refusal, first}
-use Rattle.wire.specs.Table.{Slot, width, read, fill, clear, allFixed, sound, Fit}
-use Rattle.wire.proofs.TableLaws.{length-fill, read-fill, fixed-fill, fill-read}
-use Rattle.wire.proofs.FirstLaws.{none-behind, unbroken}
-use Rattle.wire.proofs.FitLaws.{bytes-fill}
+use Rattle.wire.specs.Bytes.{num, big, Bytes}
+use Rattle.wire.specs.First.{first, _given-when_, numbered}
+use Rattle.wire.specs.Table.{Slot, width, read, fill, allFixed, allBlank, sound, Fit}
+use Rattle.wire.proofs.ByteLaws.{num-lt, big-num, big-zero}
+use Rattle.wire.proofs.TableLaws.{length-fill, read-fill, fixed-fill, fill-read, clear-blank, blank-clear}
+use Rattle.wire.proofs.FirstLaws.{first-next, none-of}
+use Rattle.wire.proofs.FitLaws.{bytes-fill, bytes-take, bytes-drop, fit-read}
+use Rattle.wire.proofs.RuleLaws.{_also_, equal, both-then}
 use Rattle.pdu.specs.Numbers
-use Rattle.pdu.specs.Tables.{common, transmitterTable, signalTable}
-use Rattle.pdu.specs.Records.{signalSize, dataBits, headerValues, transmitterFrom, transmitterValues, signalFrom, signalValues, transmitterOf, signalOf}
-use Rattle.pdu.specs.Reading.{wrongVersion, wrongSync, networkRules, bodyRules, bodySize, refusal, reading, bodyOf}
-use Rattle.pdu.specs.Writing.{transmitterBytes, signalHead, fillOf, signalBytes, transmitterWriting, signalWriting, writtenForm, paddingZero}
-use Rattle.pdu.specs.Fits.{FitsHeader, FitsTransmitter, FitsSignal}
-use Rattle.pdu.specs.declared.Header.{Header}
+use Rattle.pdu.specs.Rules.{accessRules, slotRules, networkRules, bodyRules, innerRules}
+use Rattle.pdu.specs.Tables.{fillOf, transmitterTable, signalTable}
+use Rattle.pdu.specs.Records.{transmitterValues, signalValues}
+use Rattle.pdu.specs.Forms.{tableOf, valuesOf, bodyBytes, bytesOf, sizeOf, bodyIn}
+use Rattle.pdu.specs.Reading.{content, bodyOf, refusal, numberOf}
+use Rattle.pdu.specs.Writing.{recordRules, writingRules, writingRefusal, writtenForm, paddingZero, inWrittenForm}
+use Rattle.pdu.specs.RoundTrips.{WrittenBack, bodyGiven, bodyLength, ReadsBack, WrittenForm}
+use Rattle.pdu.specs.Fits.{FitsTransmitter, FitsSignal, Fits}
 use Rattle.pdu.specs.declared.Transmitter.{Transmitter}
 use Rattle.pdu.specs.declared.Signal.{Signal}
 use Rattle.pdu.specs.declared.Reading.{Reading}
-use Rattle.pdu.proofs.WritingLaws.{SignalFits, signal-fits, length-signal}
-use Rattle.pdu.proofs.RuleLaws.{_also_, none-before}
-use Rattle.pdu.proofs.TakenExactly.{reads-as}
-use Rattle.pdu.proofs.ByTable.{networkRefusal, TransmitterTaken, SignalTaken, taken, transmitter-type, signal-type, transmitter-reading, signal-reading}
+use Rattle.pdu.specs.declared.Reading.the-variants.{Refused, Transmitter as aTransmitter, Signal as aSignal}
+use Rattle.pdu.specs.declared.Written.the-variants.{Size}
+use Rattle.pdu.proofs.Answers.{reading-taken, refusal-read}
+use Rattle.pdu.proofs.Taken.{Taken, taken, takes, signal-bounds, sound-form, width-form}
 
 -- ---- written back
 
--- values that are those read, written by the table, are the bytes with padding zero
-refill : (t : List Slot) (d xs : List ℕ) → xs ≡ read 0 t d → allFixed 0 t d ≡ true → fill t xs ≡ clear 0 t d
-refill t d xs e f = ap (fill t) e ∙ fill-read t 0 d f
+-- the written form is the datagram with padding zero
+pub written-form-back : (d : List ℕ) → refusal d ≡ 0 → writtenForm d ≡ paddingZero d
+unfolding writtenForm paddingZero bytesOf
+written-form-back d e =
+    let h = taken d e in
+    ap (fill (tableOf (content d))) (sym (h .values)) ∙ fill-read (tableOf (content d)) 0 d (h .fixed)
 
--- the record's values, with the lengths that the writer gives, are those read
-pub transmitter-values : (d : List ℕ) → TransmitterTaken d → transmitterValues (transmitterOf d) ≡ read 0 transmitterTable d
-unfolding transmitterOf
-transmitter-values d h =
-    ap (λ (n : ℕ). headerValues (transmitterOf d .header) n ++ drop 8 (read 0 transmitterTable d)) (sym (h .field))
+-- a form's bytes are as many as its size
+pub length-form : (r : Reading) (body : List ℕ) → length (bytesOf r body) ≡ sizeOf r
+unfolding bytesOf
+length-form r body = length-fill (tableOf r) (valuesOf r body) ∙ width-form r
 
-pub signal-values : (d : List ℕ) → SignalTaken d → signalValues (signalOf d) (bodySize d) ≡ read 0 signalTable d
-unfolding signalOf
-signal-values d h =
-    ap₂
-    (λ (n bits : ℕ). headerValues (signalOf d .header) n ++ (signalOf d .encoding ∷ signalOf d .rate ∷ bits ∷ drop 11 (read 0 signalTable d)))
-    (sym (h .field))
-    (sym (h .bits))
+-- no rule of a record has the number 0
+record-numbered : (r : Reading) → numbered (recordRules r) ≡ true
+unfolding recordRules innerRules networkRules accessRules slotRules bodyRules
+record-numbered (Refused n) = refl
+record-numbered (aTransmitter t) = refl
+record-numbered (aSignal s n) = refl
 
--- the body is as long as the data length says
-pub body-length : (d : List ℕ) → SignalTaken d → length (bodyOf d) ≡ bodySize d
-body-length d h = length-take-le (bodySize d) (drop Numbers.bodyStart d) (rw (length-drop Numbers.bodyStart d) (omega arith))
+-- a record that meets its rules is written where there is room; and one that is written does, and has room
+pub writes : (r : Reading) (room : ℕ) → first (recordRules r) ≡ 0 → sizeOf r ≤ room → writingRefusal r room ≡ 0
+unfolding writingRules
+writes r room e fits = first-next (recordRules r) _ (record-numbered r) e ∙ rw (le-ltb room (sizeOf r) fits)
 
-transmitter-back : (d : List ℕ) → TransmitterTaken d → transmitterBytes (transmitterOf d) ≡ clear 0 transmitterTable d
-unfolding transmitterBytes
-transmitter-back d h = refill transmitterTable d _ (transmitter-values d h) (h .fixed)
-
-signal-back : (d : List ℕ) → SignalTaken d → signalBytes (signalOf d) (bodyOf d) ≡ clear 0 signalTable d ++ (bodyOf d ++ replicate (length d - (Numbers.bodyStart + bodySize d)) 0)
-unfolding signalBytes signalHead
-signal-back d h =
-    ap (λ (n : ℕ). fill signalTable (signalValues (signalOf d) n) ++ (bodyOf d ++ replicate (fillOf n) 0)) (body-length d h)
-    ∙ ap₂ (λ (f : List ℕ) (n : ℕ). f ++ (bodyOf d ++ replicate (n - (Numbers.bodyStart + bodySize d)) 0))
-    (refill signalTable d _ (signal-values d h) (h .fixed))
-    (sym (h .size))
-
--- what is written of what was read is the datagram with padding zero
-pub written-back : (d : List ℕ) → refusal d ≡ 0 → writtenForm d ≡ paddingZero d
-unfolding writtenForm paddingZero
-written-back d e = by (taken d e)
+pub writes-room : (r : Reading) (room : ℕ) → writingRefusal r room ≡ 0 → sizeOf r ≤ room
+unfolding writingRules
+writes-room r room e = by (ltb room (sizeOf r)) refl
   where
-    by : TransmitterTaken d ⊎ SignalTaken d → writtenForm d ≡ paddingZero d
-    by (inl h) = rw (transmitter-type d h) (transmitter-back d h)
-    by (inr h) = rw (signal-type d h) (signal-back d h)
+    last : first ((16 given-when ltb room (sizeOf r)) ∷ []) ≡ 0
+    last = none-of (recordRules r) _ (record-numbered r) e .1
 
--- the written form, by what reading answered
-pub transmitter-form : (d : List ℕ) (t : Transmitter) → reading d ≡ Reading.Transmitter t → writtenForm d ≡ transmitterBytes t
+    by : (b : Bool) → ltb room (sizeOf r) ≡ b → sizeOf r ≤ room
+    by true t =
+        let z : _≡_ {A = ℕ} 16 0 = rw t at last in
+        absurd (omega arith)
+    by false t = ltb-false _ _ t
+
+pub writes-rules : (r : Reading) (room : ℕ) → writingRefusal r room ≡ 0 → first (recordRules r) ≡ 0
+unfolding writingRules
+writes-rules r room e = none-of (recordRules r) _ (record-numbered r) e .0
+
+-- where a record meets its rules, only the room is left to ask
+pub room-next : (r : Reading) (room : ℕ) → first (recordRules r) ≡ 0 → writingRefusal r room ≡ first ((16 given-when ltb room (sizeOf r)) ∷ [])
+unfolding writingRules
+room-next r room e = first-next (recordRules r) _ (record-numbered r) e
+
+-- read, and written with room
+pub written-back : (d out : List ℕ) → refusal d ≡ 0 → length d ≤ length out → WrittenBack d out
 unfolding writtenForm
-transmitter-form d t e =
-    let says = reads-as d (Reading.Transmitter t) .0 e in
-    rw (eq-eqb (num 1 2 d) Numbers.transmitterType (says .1)) (ap transmitterBytes (sym (says .2)))
-
-pub signal-form : (d : List ℕ) (s : Signal) (n : ℕ) → reading d ≡ Reading.Signal s n → writtenForm d ≡ signalBytes s (bodyOf d)
-unfolding writtenForm
-signal-form d s n e =
-    let says = reads-as d (Reading.Signal s n) .0 e in
-    rw (ne-eqb (num 1 2 d) Numbers.transmitterType (says .1)) (ap (λ (u : Signal). signalBytes u (bodyOf d)) (sym (says .2)))
-
--- the same, from the answer
-pub transmitter-written-back : (d : List ℕ) (t : Transmitter) → reading d ≡ Reading.Transmitter t → transmitterBytes t ≡ paddingZero d
-transmitter-written-back d t e =
-    sym (transmitter-form d t e) ∙ written-back d (reads-as d (Reading.Transmitter t) .0 e .0)
-
-pub signal-written-back : (d : List ℕ) (s : Signal) (n : ℕ) → reading d ≡ Reading.Signal s n → signalBytes s (bodyOf d) ≡ paddingZero d
-signal-written-back d s n e =
-    sym (signal-form d s n e) ∙ written-back d (reads-as d (Reading.Signal s n) .0 e .0)
+written-back d out e fits =
+    let h = taken d e in
+    let r : Reading = content d in
+    let taken-by : writingRefusal r (length out) ≡ 0 = writes r (length out) (h .rules) (subst (λ (n : ℕ). n ≤ length out) (h .size) fits) in
+    let yes = eq-eqb _ _ taken-by in
+    let long : length (bytesOf r (bodyOf d)) ≡ length d = length-form r (bodyOf d) ∙ sym (h .size) in
+    record {
+      answer = rw yes (ap Size (sym (h .size)));
+      output = rw yes (ap₂ (λ (l : List ℕ) (n : ℕ). l ++ drop n out) (written-form-back d e) long);
+    }
 
 -- ---- read back
-
-pub length-transmitter : (t : Transmitter) → length (transmitterBytes t) ≡ Numbers.transmitterSize
-unfolding transmitterBytes
-length-transmitter t = length-fill transmitterTable (transmitterValues t)
 
 -- values that fit, written by a table alone, are read back and have the fixed values
 alone : (t : List Slot) (xs : List ℕ) → sound t ≡ true → Fit t xs → (read 0 t (fill t xs) ≡ xs) × (allFixed 0 t (fill t xs) ≡ true)
@@ -112,81 +108,103 @@ alone t xs s fit =
     subst (λ (l : List ℕ). (read 0 t l ≡ xs) × (allFixed 0 t l ≡ true)) (append-nil (fill t xs))
     (read-fill t [] [] xs s fit, fixed-fill t [] [] xs s fit)
 
--- a record whose values fit and whose rules hold, written, is taken, and it is what is read
-pub transmitter-again : (t : Transmitter) → Fit transmitterTable (transmitterValues t) → wrongVersion (t .header .version) ≡ false → wrongSync (t .sync) ≡ false → reading (transmitterBytes t) ≡ Reading.Transmitter t
-unfolding transmitterOf transmitterBytes
-transmitter-again t fit v w =
-    let back = alone transmitterTable (transmitterValues t) refl fit in
-    let same : transmitterOf (transmitterBytes t) ≡ t = ap transmitterFrom (back .0) in
-    transmitter-reading (transmitterBytes t)
+-- what is written of a record that meets its rules and whose values fit has what its form says
+written-taken : (r : Reading) (body : List ℕ) → Fit (tableOf r) (valuesOf r body) → first (recordRules r) ≡ 0 → Taken (bytesOf r body) r body
+unfolding bytesOf
+written-taken r body fit rules =
+    let back = alone (tableOf r) (valuesOf r body) (sound-form r rules) fit in
     record {
-      size = length-transmitter t;
-      field = ap (λ (l : List ℕ). getD l 3 0) (back .0);
+      size = length-form r body;
       fixed = back .1;
-      version = subst (λ (u : Transmitter). wrongVersion (u .header .version) ≡ false) (sym same) v;
-      sync = subst (λ (u : Transmitter). wrongSync (u .sync) ≡ false) (sym same) w;
+      values = back .0;
+      rules = rules;
     }
-    ∙ ap Reading.Transmitter same
 
--- the two bytes of a Signal's encoding are bytes, whatever its body
-encoding-lt : (xs q : List ℕ) → num 2 20 (fill signalTable xs ++ q) < 2 ^ 16
-encoding-lt xs q = omega (arith, here 20 (omega arith), here 21 (omega arith))
+bytes-form : (r : Reading) (body : List ℕ) → Bytes (bytesOf r body)
+unfolding bytesOf
+bytes-form r body = bytes-fill (tableOf r) (valuesOf r body)
+
+-- so it is taken, and holds that record
+again : (r : Reading) (body : List ℕ)
+    → Fit (tableOf r) (valuesOf r body)
+    → first (recordRules r) ≡ 0
+    → (refusal (bytesOf r body) ≡ 0) × (content (bytesOf r body) ≡ r)
+again r body fit rules = takes (bytesOf r body) r body (bytes-form r body) (written-taken r body fit rules)
+
+-- bytes are the bytes of the number that they are read as
+same-bytes : (a b : List ℕ) (n : ℕ) → Bytes a → Bytes b → length a ≡ n → length b ≡ n → num n 0 a ≡ num n 0 b → a ≡ b
+same-bytes a b n ba bb la lb e =
+    sym (whole a ba la) ∙ ap (big n) e ∙ whole b bb lb
   where
-    here : (i : ℕ) → i < width signalTable → getD (fill signalTable xs ++ q) i 0 < 256
-    here i h =
-        rw (List·getD-append (fill signalTable xs) q 0 i (rw (length-fill signalTable xs) h)) (bytes-fill signalTable xs i)
+    whole : (l : List ℕ) → Bytes l → length l ≡ n → big n (num n 0 l) ≡ l
+    whole l bl ll = big-num n 0 l bl (omega arith) ∙ take-all n l (omega arith)
 
-pub signal-again : (s : Signal) (body : List ℕ) → Fit signalTable (signalValues s (length body)) → wrongVersion (s .header .version) ≡ false → networkRefusal s (length body) ≡ 0 → (reading (signalBytes s body) ≡ Reading.Signal s (length body)) × (bodyOf (signalBytes s body) ≡ body)
-unfolding signalOf signalBytes signalHead
-signal-again s body fit v r =
+-- a body of bytes, and zeros, are the bytes from byte 52 on
+pub body-filled : (body : List ℕ) → Bytes body → bodyBytes body ≡ body ++ replicate (fillOf (length body)) 0
+body-filled body b =
     let n : ℕ = length body in
-    let xs : List ℕ = signalValues s n in
-    let zeros : List ℕ = replicate (fillOf n) 0 in
-    let d : List ℕ = signalBytes s body in
-    let values : read 0 signalTable d ≡ xs = read-fill signalTable [] (body ++ zeros) xs refl fit in
-    let same : signalOf d ≡ s = ap signalFrom values in
-    let bits : num 2 28 d ≡ dataBits n = ap (λ (l : List ℕ). getD l 10 0) values in
-    let size : bodySize d ≡ n = ap (λ (b : ℕ). b / 8 - Numbers.networkBytes) bits ∙ omega arith in
-    let holds : SignalTaken d =
-    record {
-      size = length-signal s body ∙ ap signalSize (sym size);
-      field = ap (λ (l : List ℕ). getD l 3 0) values ∙ ap signalSize (sym size);
-      bits = bits ∙ ap dataBits (sym size);
-      encoding = encoding-lt xs (body ++ zeros);
-      fixed = fixed-fill signalTable [] (body ++ zeros) xs refl fit;
-      version = subst (λ (u : Signal). wrongVersion (u .header .version) ≡ false) (sym same) v;
-      rules = ap₂ networkRefusal same size ∙ r;
-    } in
-    let behind : drop Numbers.bodyStart d ≡ body ++ zeros =
-    drop-at (fill signalTable xs) (body ++ zeros) Numbers.bodyStart (length-fill signalTable xs) in
-    (signal-reading d holds ∙ ap₂ Reading.Signal same size, ap₂ take size behind ∙ take-at body zeros n refl)
+    ap₂ (λ (l z : List ℕ). l ++ (z ++ []))
+    (big-num n 0 body b (omega arith) ∙ take-all n body (omega arith))
+    (big-zero (fillOf n))
+    ∙ ap (λ (z : List ℕ). body ++ z) (append-nil (replicate (fillOf n) 0))
+
+-- the last value of a Signal is its body's number
+last-value : (s : Signal) (x y : ℕ) → signalValues s x ≡ signalValues s y → x ≡ y
+last-value s x y e = cc
+
+-- a body given to a form of its size, where another datagram of that size has the same values
+same-body : (r : Reading) (d body : List ℕ)
+    → Bytes d
+    → Bytes body
+    → length d ≡ sizeOf r
+    → length body ≡ bodyLength r
+    → valuesOf r (bodyIn r d) ≡ valuesOf r body
+    → bodyIn r d ≡ bodyGiven r body
+same-body (Refused n) d body bd bb ld lb e = refl
+same-body (aTransmitter t) d body bd bb ld lb e = refl
+same-body (aSignal s n) d body bd bb ld lb e =
+    same-bytes (bodyIn (aSignal s n) d) body n
+    (bytes-take n (drop Numbers.bodyStart d) (bytes-drop Numbers.bodyStart d bd))
+    bb
+    (length-take-le n (drop Numbers.bodyStart d) (rw (length-drop Numbers.bodyStart d) (omega arith)))
+    lb
+    (last-value s _ _ e)
+
+-- written and read: the body too
+again-body : (r : Reading) (body : List ℕ)
+    → Bytes body
+    → length body ≡ bodyLength r
+    → Fit (tableOf r) (valuesOf r body)
+    → first (recordRules r) ≡ 0
+    → bodyIn r (bytesOf r body) ≡ bodyGiven r body
+again-body r body b long fit rules =
+    let d : List ℕ = bytesOf r body in
+    let (none, holds) = again r body fit rules in
+    let read-taken : Taken d r (bodyIn r d) = subst (λ (q : Reading). Taken d q (bodyIn q d)) holds (taken d none) in
+    same-body r d body (bytes-form r body) b (length-form r body) long
+    (sym (read-taken .values) ∙ written-taken r body fit rules .values)
 
 -- a record whose fields fit their types has values that fit the table
-header-fit : (type length : ℕ) (h : Header) (rest : List Slot) (xs : List ℕ) → FitsHeader h → length < 2 ^ 16 → Fit rest xs → Fit (common type ++ rest) (headerValues h length ++ xs)
-header-fit type length h rest xs f l r =
-    f .version
-    also f .exercise
-    also f .timestamp
-    also l
-    also f .site
-    also f .application
-    also f .entity
-    also f .radio
-    also r
-
 transmitter-fit : (t : Transmitter) → FitsTransmitter t → Fit transmitterTable (transmitterValues t)
 transmitter-fit t f =
     let e = f .entity in
     let a = f .antenna in
     let m = f .emission in
     let s = f .sync in
-    header-fit Numbers.transmitterType Numbers.transmitterSize _ (drop 11 transmitterTable) (drop 8 (transmitterValues t)) (f .header) (omega arith)
-    (e .kind
+    let h = f .header in
+    h .version
+    also h .exercise
+    also h .timestamp
+    also h .site
+    also h .application
+    also h .entity
+    also h .radio
+    also e .kind
     also e .domain
     also e .country
     also e .version
     also e .nomenclature
-    also m .state
+    also e .state
     also a .x
     also a .y
     also a .z
@@ -205,43 +223,121 @@ transmitter-fit t f =
     also s .secondary
     also s .state
     also s .id
-    also refl)
+    also refl
 
-signal-fit : (s : Signal) (n room : ℕ) → FitsSignal s → SignalFits s n room → Fit signalTable (signalValues s n)
-signal-fit s n room f h =
+signal-fit : (s : Signal) (n : ℕ) (body : List ℕ)
+    → FitsSignal s
+    → Bytes body
+    → first (recordRules (aSignal s n)) ≡ 0
+    → Fit (signalTable n) (signalValues s (num n 0 body))
+signal-fit s n body f b e =
     let w = f .network in
-    header-fit Numbers.signalType (signalSize n) _ (drop 11 signalTable) (drop 8 (signalValues s n)) (f .header) (omega arith)
-    ((h .encoding, refl)
+    let bounds = signal-bounds s n e in
+    let slot-bits : s .network .slot < 2 ^ 17 = omega arith in
+    let h = f .header in
+    h .version
+    also h .exercise
+    also h .timestamp
+    also h .site
+    also h .application
+    also h .entity
+    also h .radio
+    also (bounds .encoding, refl)
     also f .rate
-    also omega arith
     also f .samples
     also w .npg
     also w .net
     also w .tsec
     also w .msec
     also w .«message_type»
-    also (w .epoch, (h .slot, refl))
+    also (w .epoch, (slot-bits, refl))
     also w .time
-    also refl)
+    also num-lt n 0 body b
+    also refl
 
--- a Transmitter that the writer takes, written, reads back the same
-pub transmitter-reads-back : (t : Transmitter) → FitsTransmitter t → (room : ℕ) → first (transmitterWriting t room) ≡ 0 → reading (transmitterBytes t) ≡ Reading.Transmitter t
-unfolding transmitterWriting
-transmitter-reads-back t f room e =
-    transmitter-again t (transmitter-fit t f)
-    (unbroken 0 (transmitterWriting t room) refl e)
-    (unbroken 1 (transmitterWriting t room) refl e)
+fit-form : (r : Reading) (body : List ℕ) → Fits r → Bytes body → first (recordRules r) ≡ 0 → Fit (tableOf r) (valuesOf r body)
+fit-form (Refused n) body f b e = absurd f
+fit-form (aTransmitter t) body f b e = transmitter-fit t f
+fit-form (aSignal s n) body f b e = signal-fit s n body f b e
 
--- what the writer's rules say of a Signal that it takes
-signal-none : (s : Signal) (n room : ℕ) → first (signalWriting s n room) ≡ 0 → (wrongVersion (s .header .version) ≡ false) × (networkRefusal s n ≡ 0)
-unfolding signalWriting networkRules bodyRules
-signal-none s n room e =
-    let rules : List Refusal = signalWriting s n room in
-    (unbroken 0 rules refl e, none-before 10 (drop 2 rules) (none-behind 2 rules refl e))
+-- a record that the writer takes, written, reads back the same, and so does its body
+pub reads-back : (r : Reading) (body : List ℕ) (room : ℕ)
+    → Fits r
+    → Bytes body
+    → length body ≡ bodyLength r
+    → writingRefusal r room ≡ 0
+    → ReadsBack r body
+reads-back r body room f b long e =
+    let rules = writes-rules r room e in
+    let fit = fit-form r body f b rules in
+    let (none, holds) = again r body fit rules in
+    record {
+      reads = reading-taken (bytesOf r body) none ∙ holds;
+      same-body = again-body r body b long fit rules;
+    }
 
--- a Signal that the writer takes, written, reads back the same, and so does its body
-pub signal-reads-back : (s : Signal) → FitsSignal s → (body : List ℕ) (room : ℕ) → first (signalWriting s (length body) room) ≡ 0 → (reading (signalBytes s body) ≡ Reading.Signal s (length body)) × (bodyOf (signalBytes s body) ≡ body)
-signal-reads-back s f body room e =
-    let n : ℕ = length body in
-    let none = signal-none s n room e in
-    signal-again s body (signal-fit s n room f (signal-fits s n room e)) (none .0) (none .1)
+-- ---- the written form
+
+-- a body in a datagram has the length that its form says
+body-in-long : (r : Reading) (d : List ℕ) → length d ≡ sizeOf r → length (bodyIn r d) ≡ bodyLength r
+body-in-long (Refused n) d h = refl
+body-in-long (aTransmitter t) d h = refl
+body-in-long (aSignal s n) d h =
+    length-take-le n (drop Numbers.bodyStart d) (rw (length-drop Numbers.bodyStart d) (omega arith))
+
+body-in-bytes : (r : Reading) (d : List ℕ) → Bytes d → Bytes (bodyIn r d)
+body-in-bytes (Refused n) d b i = omega arith
+body-in-bytes (aTransmitter t) d b i = omega arith
+body-in-bytes (aSignal s n) d b i = bytes-take n (drop Numbers.bodyStart d) (bytes-drop Numbers.bodyStart d b) i
+
+given-in : (r : Reading) (d : List ℕ) → bodyGiven r (bodyIn r d) ≡ bodyIn r d
+given-in (Refused n) d = refl
+given-in (aTransmitter t) d = refl
+given-in (aSignal s n) d = refl
+
+pub written-form : (d : List ℕ) → Bytes d → refusal d ≡ 0 → WrittenForm d
+unfolding writtenForm
+written-form d b e =
+    let r : Reading = content d in
+    let body : List ℕ = bodyOf d in
+    let h = taken d e in
+    let fit : Fit (tableOf r) (valuesOf r body) = subst (Fit (tableOf r)) (h .values) (fit-read (tableOf r) 0 d b) in
+    let (none, holds) = again r body fit (h .rules) in
+    let same-body : bodyIn r (bytesOf r body) ≡ body =
+    again-body r body (body-in-bytes r d b) (body-in-long r d (h .size)) fit (h .rules) ∙ given-in r d in
+    let body-same : bodyOf (bytesOf r body) ≡ body = ap (λ (q : Reading). bodyIn q (bytesOf r body)) holds ∙ same-body in
+    record {
+      size = length-form r body ∙ ap sizeOf (sym (reading-taken d e));
+      same = reading-taken (bytesOf r body) none ∙ holds ∙ sym (reading-taken d e);
+      body = body-same;
+      again = ap₂ bytesOf holds body-same;
+      bytes = bytes-form r body;
+    }
+
+-- ---- what is in written form
+
+-- of a taken datagram: its padding is zero exactly where it is its own written form
+padding-says : (d : List ℕ) → Bytes d → refusal d ≡ 0 → (allBlank 0 (tableOf (content d)) d ≡ true) ↔ (writtenForm d ≡ d)
+unfolding paddingZero
+padding-says d b e =
+    let t : List Slot = tableOf (content d) in
+    let h = taken d e in
+    let whole : width t ≡ length d = width-form (content d) ∙ sym (h .size) in
+    let sound-table = sound-form (content d) (h .rules) in
+    let all : take (width t) d ≡ d = take-all (width t) d (omega arith) in
+    let back = written-form-back d e in (
+      (λ z. back ∙ clear-blank t 0 d sound-table b (omega arith) z ∙ all),
+      (λ z. blank-clear t 0 d sound-table b (omega arith) (sym back ∙ z ∙ sym all)),
+    )
+
+-- in written form: taken, and its own written form
+pub written-form-exactly : (d : List ℕ) → Bytes d → (inWrittenForm d ≡ true) ↔ ((refusal d ≡ 0) × (writtenForm d ≡ d))
+unfolding inWrittenForm
+written-form-exactly d b = both-then _ _ (equal _ _) (padding-says d b)
+
+-- a written form is taken, and in written form
+pub written-form-holds : (d : List ℕ) → Bytes d → refusal d ≡ 0 → inWrittenForm (writtenForm d) ≡ true
+written-form-holds d b e =
+    let w = written-form d b e in
+    let none : refusal (writtenForm d) ≡ 0 = sym (refusal-read (writtenForm d)) ∙ ap numberOf (w .same) ∙ refusal-read d ∙ e in
+    written-form-exactly (writtenForm d) (w .bytes) .1 (none, w .again)

@@ -8,6 +8,8 @@ use Rattle.pdu.specs.declared.Sync.{Sync}
 use Rattle.pdu.specs.declared.Transmitter.{Transmitter}
 use Rattle.pdu.specs.declared.Network.{Network}
 use Rattle.pdu.specs.declared.Signal.{Signal}
+use Rattle.pdu.specs.declared.Reading.{Reading}
+use Rattle.pdu.specs.declared.Reading.the-variants.{Refused, Transmitter as aTransmitter, Signal as aSignal}
 
 -- n is a number of so many bits
 abbrev pub Bits : ℕ → ℕ → Type 0
@@ -28,6 +30,7 @@ pub record FitsEntity (e : Entity) : Type 0 where
   pub country : Bits 16 (e .country)
   pub version : Bits 8 (e .version)
   pub nomenclature : Bits 16 (e .nomenclature)
+  pub state : Bits 8 (e .state)
 
 pub record FitsAntenna (a : Antenna) : Type 0 where
   pub x : Bits 64 (a .x)
@@ -39,7 +42,6 @@ pub record FitsAntenna (a : Antenna) : Type 0 where
   pub pattern : Bits 16 (a .pattern)
 
 pub record FitsEmission (e : Emission) : Type 0 where
-  pub state : Bits 8 (e .state)
   pub frequency : Bits 64 (e .frequency)
   pub bandwidth : Bits 32 (e .bandwidth)
   pub power : Bits 32 (e .power)
@@ -77,3 +79,9 @@ pub record FitsSignal (s : Signal) : Type 0 where
   pub rate : Bits 32 (s .rate)
   pub samples : Bits 16 (s .samples)
   pub network : FitsNetwork (s .network)
+
+-- the record that reading answered, or that writing is given; a refusal is none
+abbrev pub Fits : Reading → Type 0
+Fits (Refused n) = ⊥
+Fits (aTransmitter t) = FitsTransmitter t
+Fits (aSignal s n) = FitsSignal s

@@ -1,9 +1,12 @@
--- What the PDU part means: the numbers of document 01, the tables, reading, writing and words.
+-- What the PDU part means: the numbers of document 01, the tables, the records, reading, writing and words.
 pub mod Numbers
 pub mod Tables
 pub mod Records
 pub mod Words
+pub mod Rules
+pub mod Forms
 pub mod Reading
 pub mod Writing
 pub mod Plain
 pub mod Fits
+pub mod RoundTrips

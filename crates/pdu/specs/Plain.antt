@@ -1,66 +1,67 @@
--- Document 01's rules for a datagram, in its order and in plain numbers, beside the tests of Reading.
--- `num w o d` is the number in the w bytes of d from byte o on.
-use Prim.Native.Nat.{ℕ, _+_, _*_, _/_, _%_, _^_, _≤_, _<_}
+-- Document 01's rules, in its order and in plain numbers at byte places, beside the tests of Rules, Reading and Writing: what a datagram must
+-- meet to be taken, and a record to be written. `num w o d` is the number in the w bytes of d from byte o on.
+use Prim.Native.Nat.{ℕ, _+_, _-_, _*_, _/_, _%_, _^_, _≤_, _<_}
 use mathlib.Core.Path.{_≡_}
-use mathlib.Core.Logic.{_⊎_, _≢_}
+use mathlib.Core.Logic.{_↔_, _⊎_, _≢_}
 use mathlib.Core.List.{List, [], _∷_, _++_}
 use lib.ListN.{length}
 use Rattle.wire.specs.Bytes.{num}
-use Rattle.pdu.specs.Numbers
-use Rattle.pdu.specs.Reading.{bodySize}
+use Rattle.wire.specs.Rules.{Rule, _unless_, Met, FirstBroken}
+use Rattle.pdu.specs.Forms.{sizeOf}
+use Rattle.pdu.specs.Writing.{written}
+use Rattle.pdu.specs.declared.Written.the-variants.{Refused as NotWritten, Size}
+use Rattle.pdu.specs.Reading.{transmitterOf, signalOf, bodySize, reading}
+use Rattle.pdu.specs.declared.Transmitter.{Transmitter}
+use Rattle.pdu.specs.declared.Signal.{Signal}
+use Rattle.pdu.specs.declared.Reading.{Reading}
+use Rattle.pdu.specs.declared.Reading.the-variants.{Refused, Transmitter as aTransmitter, Signal as aSignal}
 
--- a rule: its number is given unless what it asks holds
-infix 10 _unless_
-pub data Rule : Type 1 where
-  _unless_ : ℕ → Type 0 → Rule
-
--- every rule holds
-abbrev pub Met : List Rule → Type 0
-Met [] = Unit {0}
-Met ((m unless holds) ∷ rest) = holds × Met rest
-
--- n is the number of the first rule that does not hold (01: "The first that applies is given")
-abbrev pub FirstBroken : ℕ → List Rule → Type 0
-FirstBroken n [] = ⊥
-FirstBroken n ((m unless holds) ∷ rest) = ((n ≡ m) × ¬ holds) ⊎ (holds × FirstBroken n rest)
-
--- 1 to 4, for the PDU type and the least length given (01: "Bytes 0 to 19, both PDUs")
-abbrev pub plainStart : ℕ → ℕ → List ℕ → List Rule
-plainStart type least d =
-    (1 unless (Numbers.shortest ≤ length d))
-    ∷ (2 unless ((num 1 0 d ≡ Numbers.olderVersion) ⊎ (num 1 0 d ≡ Numbers.newerVersion)))
-    ∷ (3 unless ((num 1 2 d ≡ type) × (num 1 3 d ≡ Numbers.radioFamily)))
-    ∷ (4 unless ((num 2 8 d ≡ length d) × (least ≤ num 2 8 d)))
+-- 1, 2, 3, for what is asked of the PDU type (01: "Bytes 0 to 19, both PDUs")
+abbrev pub plainStart : Type 0 → List ℕ → List Rule
+plainStart type d =
+    (1 unless (12 ≤ length d))
+    ∷ (2 unless ((num 1 0 d ≡ 5) ⊎ (num 1 0 d ≡ 6)))
+    ∷ (3 unless (type × (num 1 3 d ≡ 4)))
     ∷ []
+
+-- 4, for the least length given
+abbrev pub LengthRule : ℕ → List ℕ → Type 0
+LengthRule least d = (num 2 8 d ≡ length d) × (least ≤ num 2 8 d)
 
 -- 5: "24 category = 21", "29 input source = 8", "90 major = 7; 92 detail = 0; 94 system = 8"
 abbrev pub FixedRule : List ℕ → Type 0
 FixedRule d =
-    (num 1 24 d ≡ Numbers.category)
-    × (num 1 29 d ≡ Numbers.inputSource)
-    × (num 2 90 d ≡ Numbers.major)
-    × (num 2 92 d ≡ Numbers.detail)
-    × (num 2 94 d ≡ Numbers.system)
+    (num 1 24 d ≡ 21)
+    × (num 1 29 d ≡ 8)
+    × (num 2 90 d ≡ 7)
+    × (num 2 92 d ≡ 0)
+    × (num 2 94 d ≡ 8)
 
 -- 9: "TSA level 0 to 4", "primary mode 1 or 2", "secondary mode 0 to 3", "synchronization state 2 .. or 3", "ID .. zero at levels 0 to 2"
 abbrev pub SyncRule : ℕ → ℕ → ℕ → ℕ → ℕ → Type 0
 SyncRule level primary secondary state id =
-    (level ≤ Numbers.lastLevel)
-    × ((primary ≡ Numbers.firstPrimaryMode) ⊎ (primary ≡ Numbers.lastPrimaryMode))
-    × (secondary ≤ Numbers.lastSecondaryMode)
-    × ((state ≡ Numbers.coarse) ⊎ (state ≡ Numbers.fine))
-    × (level < Numbers.firstIdLevel → id ≡ 0)
+    (level ≤ 4)
+    × ((primary ≡ 1) ⊎ (primary ≡ 2))
+    × (secondary ≤ 3)
+    × ((state ≡ 2) ⊎ (state ≡ 3))
+    × (level < 3 → id ≡ 0)
+
+-- 4, 5, 6, 7, 8 of a Transmitter
+abbrev pub plainTransmitterLayout : List ℕ → List Rule
+plainTransmitterLayout d =
+    (4 unless LengthRule 104 d)
+    ∷ (5 unless FixedRule d)
+    ∷ (6 unless (num 1 100 d ≡ 8))
+    ∷ (7 unless (num 2 70 d ≡ 0))
+    ∷ (8 unless (length d ≡ 112))
+    ∷ []
 
 -- Transmitter: 1, 2, 3, 4, 5, 6, 7, 8, 9 (01: "Transmitter, 112 bytes")
 abbrev pub plainTransmitter : List ℕ → List Rule
 plainTransmitter d =
-    plainStart Numbers.transmitterType Numbers.transmitterLeast d
-    ++ ((5 unless FixedRule d)
-    ∷ (6 unless (num 1 100 d ≡ Numbers.modulationLength))
-    ∷ (7 unless (num 2 70 d ≡ Numbers.patternLength))
-    ∷ (8 unless (length d ≡ Numbers.transmitterSize))
-    ∷ (9 unless SyncRule (num 1 104 d) (num 1 105 d) (num 1 106 d) (num 1 107 d) (num 4 108 d))
-    ∷ [])
+    plainStart (num 1 2 d ≡ 25) d
+    ++ (plainTransmitterLayout d
+    ++ ((9 unless SyncRule (num 1 104 d) (num 1 105 d) (num 1 106 d) (num 1 107 d) (num 4 108 d)) ∷ []))
 
 -- 8: size is the least multiple of 4 that is not below n ("filled to a multiple of 4")
 abbrev pub FilledTo : ℕ → ℕ → Type 0
@@ -68,46 +69,92 @@ FilledTo n size = (n ≤ size) × (size < n + 4) × (size % 4 ≡ 0)
 
 -- 13, TSEC and MSEC: "each 0 to 127 or 255"
 abbrev pub SecurityRule : ℕ → Type 0
-SecurityRule k = (k ≤ Numbers.lastSecurity) ⊎ (k ≡ Numbers.noSecurity)
+SecurityRule k = (k ≤ 127) ⊎ (k ≡ 255)
 
--- 13, "Slot ID: bits 0 to 16 slot", "bits 24 to 31 epoch"
+-- 14, for the message type and the body's size: "Type 0 body: 6 header bytes, then n words of 10 bytes"
+abbrev pub WordsRule : ℕ → ℕ → Type 0
+WordsRule type size = type ≡ 0 → (words : ℕ) × (size ≡ 6 + 10 * words)
+
+-- 15: at most 12 words; "Types 1 to 7: 0 to 256 bytes"
+abbrev pub SizeRule : ℕ → ℕ → Type 0
+SizeRule type size = (type ≡ 0 → size ≤ 126) × (type ≢ 0 → size ≤ 256)
+
+-- 13, 14, 15, for NPG, net, TSEC, MSEC, message type, slot, epoch and the body's size (01: "32 NPG" to "Type 0 body")
+abbrev pub plainNetwork : ℕ → ℕ → ℕ → ℕ → ℕ → ℕ → ℕ → ℕ → List Rule
+plainNetwork npg net tsec msec type slot epoch size =
+    (13 unless (npg ≤ 511))
+    ∷ (13 unless (net ≤ 127))
+    ∷ (13 unless SecurityRule tsec)
+    ∷ (13 unless SecurityRule msec)
+    ∷ (13 unless (type ≤ 7))
+    ∷ (13 unless (slot ≤ 98303))
+    ∷ (13 unless (epoch ≤ 112))
+    ∷ (13 unless (epoch ≡ 112 → slot ≤ 45151))
+    ∷ (14 unless WordsRule type size)
+    ∷ (15 unless SizeRule type size)
+    ∷ []
+
+-- "Slot ID: bits 0 to 16 slot", "bits 24 to 31 epoch"
 abbrev pub slotOf : List ℕ → ℕ
 slotOf d = num 4 40 d % 2 ^ 17
 
 abbrev pub epochOf : List ℕ → ℕ
 epochOf d = num 4 40 d / 2 ^ 24 % 2 ^ 8
 
--- 14, for the message type and the body's size: "Type 0 body: 6 header bytes, then n words of 10 bytes"
-abbrev pub WordsRule : ℕ → ℕ → Type 0
-WordsRule type size = type ≡ 0 → (words : ℕ) × (size ≡ Numbers.bodyHeader + Numbers.wordBytes * words)
+-- 13, 14, 15 of a datagram; the data length counts the network header's 20 bytes
+abbrev pub plainInner : List ℕ → List Rule
+plainInner d =
+    plainNetwork (num 2 32 d) (num 1 34 d) (num 1 35 d) (num 1 36 d) (num 1 37 d) (slotOf d) (epochOf d) (num 2 28 d / 8 - 20)
 
--- 15: at most 12 words; "Types 1 to 7: 0 to 256 bytes"
-abbrev pub SizeRule : ℕ → ℕ → Type 0
-SizeRule type size =
-    (type ≡ 0 → size ≤ Numbers.bodyHeader + Numbers.wordBytes * Numbers.mostWords)
-    × (type ≢ 0 → size ≤ Numbers.mostBytes)
-
--- 13, 14, 15 (01: "32 NPG" to "Type 0 body")
-abbrev pub plainNetwork : List ℕ → List Rule
-plainNetwork d =
-    (13 unless (num 2 32 d ≤ Numbers.lastNpg))
-    ∷ (13 unless (num 1 34 d ≤ Numbers.lastNet))
-    ∷ (13 unless SecurityRule (num 1 35 d))
-    ∷ (13 unless SecurityRule (num 1 36 d))
-    ∷ (13 unless (num 1 37 d ≤ Numbers.lastMessageType))
-    ∷ (13 unless (slotOf d ≤ Numbers.lastSlot))
-    ∷ (13 unless (epochOf d ≤ Numbers.lastEpoch))
-    ∷ (13 unless (epochOf d ≡ Numbers.lastEpoch → slotOf d ≤ Numbers.lastSlotOfLastEpoch))
-    ∷ (14 unless WordsRule (num 1 37 d) (bodySize d))
-    ∷ (15 unless SizeRule (num 1 37 d) (bodySize d))
+-- 4, 10, 11, 12, 8 of a Signal
+abbrev pub plainSignalLayout : List ℕ → List Rule
+plainSignalLayout d =
+    (4 unless LengthRule 32 d)
+    ∷ (10 unless (num 2 20 d / 16384 ≡ 1))
+    ∷ (11 unless (num 2 22 d ≡ 100))
+    ∷ (12 unless ((num 2 28 d % 8 ≡ 0) × (160 ≤ num 2 28 d)))
+    ∷ (8 unless FilledTo (32 + num 2 28 d / 8) (length d))
     ∷ []
 
 -- Signal: 1, 2, 3, 4, 10, 11, 12, 8, 13, 14, 15 (01: "Signal")
 abbrev pub plainSignal : List ℕ → List Rule
-plainSignal d =
-    plainStart Numbers.signalType Numbers.signalLeast d
-    ++ ((10 unless (num 2 20 d / Numbers.encodingKept ≡ Numbers.encodingClass))
-    ∷ (11 unless (num 2 22 d ≡ Numbers.tdlType))
-    ∷ (12 unless ((num 2 28 d % 8 ≡ 0) × (8 * Numbers.networkBytes ≤ num 2 28 d)))
-    ∷ (8 unless FilledTo (Numbers.signalLeast + num 2 28 d / 8) (length d))
-    ∷ plainNetwork d)
+plainSignal d = plainStart (num 1 2 d ≡ 26) d ++ (plainSignalLayout d ++ plainInner d)
+
+-- the rules of a Transmitter to be written: 2, 9
+abbrev pub plainTransmitterRecord : Transmitter → List Rule
+plainTransmitterRecord t =
+    (2 unless ((t .header .version ≡ 5) ⊎ (t .header .version ≡ 6)))
+    ∷ (9 unless SyncRule (t .sync .level) (t .sync .primary) (t .sync .secondary) (t .sync .state) (t .sync .id))
+    ∷ []
+
+-- the rules of a Signal to be written, with a body of n bytes: 2, 10, 13, 14, 15
+abbrev pub plainSignalRecord : Signal → ℕ → List Rule
+plainSignalRecord s n =
+    let k = s .network in
+    (2 unless ((s .header .version ≡ 5) ⊎ (s .header .version ≡ 6)))
+    ∷ (10 unless (s .encoding ≤ 16383))
+    ∷ plainNetwork (k .npg) (k .net) (k .tsec) (k .msec) (k .«message_type») (k .slot) (k .epoch) n
+
+-- Writing: 2, 9, 16 for a Transmitter
+abbrev pub plainTransmitterWriting : Transmitter → ℕ → List Rule
+plainTransmitterWriting t room = plainTransmitterRecord t ++ ((16 unless (112 ≤ room)) ∷ [])
+
+-- 2, 10, 13, 14, 15, 16 for a Signal: the room is at least each filled size, of which there is one
+abbrev pub plainSignalWriting : Signal → ℕ → ℕ → List Rule
+plainSignalWriting s n room =
+    plainSignalRecord s n ++ ((16 unless ((size : ℕ) → FilledTo (52 + n) size → size ≤ room)) ∷ [])
+
+-- what reading says of every datagram: taken exactly when every plain rule of its layout holds; refused by the first that does not; and what
+-- is taken is what the table gives
+pub record TakenExactly (d : List ℕ) : Type 0 where
+  pub transmitter-taken : ((t : Transmitter) × (reading d ≡ aTransmitter t)) ↔ Met (plainTransmitter d)
+  pub signal-taken : ((s : Signal) × (n : ℕ) × (reading d ≡ aSignal s n)) ↔ Met (plainSignal d)
+  pub transmitter-refused : num 1 2 d ≡ 25 → (n : ℕ) → (reading d ≡ Refused n) ↔ FirstBroken n (plainTransmitter d)
+  pub signal-refused : num 1 2 d ≢ 25 → (n : ℕ) → (reading d ≡ Refused n) ↔ FirstBroken n (plainSignal d)
+  pub transmitter-content : (t : Transmitter) → reading d ≡ aTransmitter t → t ≡ transmitterOf d
+  pub signal-content : (s : Signal) (n : ℕ) → reading d ≡ aSignal s n → (s ≡ signalOf d) × (n ≡ bodySize d)
+
+-- what writing says of every record: written, with its size, exactly when every plain rule holds and there is room; else the first that does not
+pub record WrittenExactly (r : Reading) (plain : List Rule) (room : ℕ) : Type 0 where
+  pub written-size : (written r room ≡ Size (sizeOf r)) ↔ Met plain
+  pub refused : (n : ℕ) → (written r room ≡ NotWritten n) ↔ FirstBroken n plain

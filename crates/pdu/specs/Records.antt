@@ -1,10 +1,9 @@
--- The records that the calls carry, and the values of each in the order of its table. A length is among the values and not in the record.
-use Prim.Native.Nat.{ℕ, _+_, _*_, _/_}
+-- The records that the calls carry: each struct from the values of its own slots, and back. Positions count from 0 in each struct.
+use Prim.Native.Nat.{ℕ}
 use mathlib.Core.List.{List, [], _∷_, _++_}
-use lib.ListN.{getD}
-use Rattle.wire.specs.Table.{read}
-use Rattle.pdu.specs.Numbers.{transmitterSize, networkBytes, signalLeast}
-use Rattle.pdu.specs.Tables.{transmitterTable, signalTable}
+use lib.ListN.{getD, drop}
+use Rattle.wire.specs.Table.{counts}
+use Rattle.pdu.specs.Tables.{headerTable, entityTable, antennaTable, emissionTable, encodingTable}
 use Rattle.pdu.specs.declared.Header.{Header}
 use Rattle.pdu.specs.declared.Entity.{Entity}
 use Rattle.pdu.specs.declared.Antenna.{Antenna}
@@ -14,178 +13,141 @@ use Rattle.pdu.specs.declared.Transmitter.{Transmitter}
 use Rattle.pdu.specs.declared.Network.{Network}
 use Rattle.pdu.specs.declared.Signal.{Signal}
 
--- a size filled to a multiple of 4 (01: "filled to a multiple of 4")
-abbrev pub filled : ℕ → ℕ
-filled n = (n + 3) / 4 * 4
+-- ---- bytes 0 to 19
 
--- the size of a Signal PDU whose body has n bytes (01: "32 plus the data bytes, filled"; the network header counts as data)
-abbrev pub signalSize : ℕ → ℕ
-signalSize n = filled (signalLeast + (networkBytes + n))
-
--- the data length in bits of a Signal whose body has n bytes
-abbrev pub dataBits : ℕ → ℕ
-dataBits n = 8 * (networkBytes + n)
-
--- the shared fields, from the values of either table; value 3 is the length
 abbrev pub headerFrom : List ℕ → Header
 headerFrom v =
     record {
       version = getD v 0 0;
       exercise = getD v 1 0;
       timestamp = getD v 2 0;
-      site = getD v 4 0;
-      application = getD v 5 0;
-      entity = getD v 6 0;
-      radio = getD v 7 0;
+      site = getD v 3 0;
+      application = getD v 4 0;
+      entity = getD v 5 0;
+      radio = getD v 6 0;
     }
 
--- the values of the shared fields, with the length given
-abbrev pub headerValues : Header → ℕ → List ℕ
-headerValues h length =
-    h .version
-    ∷ h .exercise
-    ∷ h .timestamp
-    ∷ length
-    ∷ h .site
-    ∷ h .application
-    ∷ h .entity
-    ∷ h .radio
-    ∷ []
+abbrev pub headerValues : Header → List ℕ
+headerValues h =
+    h .version ∷ h .exercise ∷ h .timestamp ∷ h .site ∷ h .application ∷ h .entity ∷ h .radio ∷ []
+
+-- the values behind the header's
+abbrev pub pastHeader : List ℕ → List ℕ
+pastHeader v = drop (counts (headerTable 0 0)) v
+
+-- ---- a Transmitter
 
 abbrev pub entityFrom : List ℕ → Entity
 entityFrom v =
     record {
-      kind = getD v 8 0;
-      domain = getD v 9 0;
-      country = getD v 10 0;
-      version = getD v 11 0;
-      nomenclature = getD v 12 0;
+      kind = getD v 0 0;
+      domain = getD v 1 0;
+      country = getD v 2 0;
+      version = getD v 3 0;
+      nomenclature = getD v 4 0;
+      state = getD v 5 0;
     }
+
+abbrev pub entityValues : Entity → List ℕ
+entityValues e =
+    e .kind ∷ e .domain ∷ e .country ∷ e .version ∷ e .nomenclature ∷ e .state ∷ []
 
 abbrev pub antennaFrom : List ℕ → Antenna
 antennaFrom v =
     record {
-      x = getD v 14 0;
-      y = getD v 15 0;
-      z = getD v 16 0;
-      dx = getD v 17 0;
-      dy = getD v 18 0;
-      dz = getD v 19 0;
-      pattern = getD v 20 0;
+      x = getD v 0 0;
+      y = getD v 1 0;
+      z = getD v 2 0;
+      dx = getD v 3 0;
+      dy = getD v 4 0;
+      dz = getD v 5 0;
+      pattern = getD v 6 0;
     }
+
+abbrev pub antennaValues : Antenna → List ℕ
+antennaValues a = a .x ∷ a .y ∷ a .z ∷ a .dx ∷ a .dy ∷ a .dz ∷ a .pattern ∷ []
 
 abbrev pub emissionFrom : List ℕ → Emission
 emissionFrom v =
     record {
-      state = getD v 13 0;
-      frequency = getD v 21 0;
-      bandwidth = getD v 22 0;
-      power = getD v 23 0;
-      spread = getD v 24 0;
-      crypto = getD v 25 0;
-      key = getD v 26 0;
+      frequency = getD v 0 0;
+      bandwidth = getD v 1 0;
+      power = getD v 2 0;
+      spread = getD v 3 0;
+      crypto = getD v 4 0;
+      key = getD v 5 0;
     }
+
+abbrev pub emissionValues : Emission → List ℕ
+emissionValues e =
+    e .frequency ∷ e .bandwidth ∷ e .power ∷ e .spread ∷ e .crypto ∷ e .key ∷ []
 
 abbrev pub syncFrom : List ℕ → Sync
 syncFrom v =
     record {
-      level = getD v 27 0;
-      primary = getD v 28 0;
-      secondary = getD v 29 0;
-      state = getD v 30 0;
-      id = getD v 31 0;
+      level = getD v 0 0;
+      primary = getD v 1 0;
+      secondary = getD v 2 0;
+      state = getD v 3 0;
+      id = getD v 4 0;
     }
 
+abbrev pub syncValues : Sync → List ℕ
+syncValues s = s .level ∷ s .primary ∷ s .secondary ∷ s .state ∷ s .id ∷ []
+
+-- a Transmitter from the values of its table, and back
 abbrev pub transmitterFrom : List ℕ → Transmitter
 transmitterFrom v =
     record {
       header = headerFrom v;
-      entity = entityFrom v;
-      antenna = antennaFrom v;
-      emission = emissionFrom v;
-      sync = syncFrom v;
+      entity = entityFrom (pastHeader v);
+      antenna = antennaFrom (drop (counts entityTable) (pastHeader v));
+      emission = emissionFrom (drop (counts (entityTable ++ antennaTable)) (pastHeader v));
+      sync = syncFrom (drop (counts (entityTable ++ (antennaTable ++ emissionTable))) (pastHeader v));
     }
 
--- the values of a Transmitter, in the order of its table
 abbrev pub transmitterValues : Transmitter → List ℕ
 transmitterValues t =
-    headerValues (t .header) transmitterSize
-    ++ (t .entity .kind
-    ∷ t .entity .domain
-    ∷ t .entity .country
-    ∷ t .entity .version
-    ∷ t .entity .nomenclature
-    ∷ t .emission .state
-    ∷ t .antenna .x
-    ∷ t .antenna .y
-    ∷ t .antenna .z
-    ∷ t .antenna .dx
-    ∷ t .antenna .dy
-    ∷ t .antenna .dz
-    ∷ t .antenna .pattern
-    ∷ t .emission .frequency
-    ∷ t .emission .bandwidth
-    ∷ t .emission .power
-    ∷ t .emission .spread
-    ∷ t .emission .crypto
-    ∷ t .emission .key
-    ∷ t .sync .level
-    ∷ t .sync .primary
-    ∷ t .sync .secondary
-    ∷ t .sync .state
-    ∷ t .sync .id
-    ∷ [])
+    headerValues (t .header)
+    ++ (entityValues (t .entity)
+    ++ (antennaValues (t .antenna) ++ (emissionValues (t .emission) ++ syncValues (t .sync))))
+
+-- ---- a Signal
 
 abbrev pub networkFrom : List ℕ → Network
 networkFrom v =
     record {
-      npg = getD v 12 0;
-      net = getD v 13 0;
-      tsec = getD v 14 0;
-      msec = getD v 15 0;
-      «message_type» = getD v 16 0;
-      slot = getD v 18 0;
-      epoch = getD v 17 0;
-      time = getD v 19 0;
+      npg = getD v 0 0;
+      net = getD v 1 0;
+      tsec = getD v 2 0;
+      msec = getD v 3 0;
+      «message_type» = getD v 4 0;
+      epoch = getD v 5 0;
+      slot = getD v 6 0;
+      time = getD v 7 0;
     }
 
--- a Signal from the values of its table; value 10 is the data length
+abbrev pub networkValues : Network → List ℕ
+networkValues n =
+    n .npg ∷ n .net ∷ n .tsec ∷ n .msec ∷ n .«message_type» ∷ n .epoch ∷ n .slot ∷ n .time ∷ []
+
+-- the values of bytes 20 to 31
+abbrev pub encodingValues : Signal → List ℕ
+encodingValues s = s .encoding ∷ s .rate ∷ s .samples ∷ []
+
+-- a Signal from the values of its table, its body left out
 abbrev pub signalFrom : List ℕ → Signal
 signalFrom v =
     record {
       header = headerFrom v;
-      encoding = getD v 8 0;
-      rate = getD v 9 0;
-      samples = getD v 11 0;
-      network = networkFrom v;
+      encoding = getD (pastHeader v) 0 0;
+      rate = getD (pastHeader v) 1 0;
+      samples = getD (pastHeader v) 2 0;
+      network = networkFrom (drop (counts (encodingTable 0)) (pastHeader v));
     }
 
--- the values of a Signal whose body has n bytes, in the order of its table
+-- the values of a Signal whose body is this number
 abbrev pub signalValues : Signal → ℕ → List ℕ
-signalValues s n =
-    headerValues (s .header) (signalSize n)
-    ++ (s .encoding
-    ∷ s .rate
-    ∷ dataBits n
-    ∷ s .samples
-    ∷ s .network .npg
-    ∷ s .network .net
-    ∷ s .network .tsec
-    ∷ s .network .msec
-    ∷ s .network .«message_type»
-    ∷ s .network .epoch
-    ∷ s .network .slot
-    ∷ s .network .time
-    ∷ [])
-
--- the shared fields in the bytes d; both tables place them alike
-unfoldable pub headerOf : List ℕ → Header
-headerOf d = headerFrom (read 0 transmitterTable d)
-
--- the Transmitter in the bytes d, by its table
-unfoldable pub transmitterOf : List ℕ → Transmitter
-transmitterOf d = transmitterFrom (read 0 transmitterTable d)
-
--- the Signal in the bytes d, by its table
-unfoldable pub signalOf : List ℕ → Signal
-signalOf d = signalFrom (read 0 signalTable d)
+signalValues s body =
+    headerValues (s .header)
+    ++ (encodingValues s ++ (networkValues (s .network) ++ (body ∷ [])))

@@ -1,18 +1,35 @@
--- The layouts: one table each (source 000, Tables 3 and 5; IEEE 1278.1 for the DIS header), in byte order, as document 01 condenses them.
-use Prim.Native.Nat.{ℕ}
+-- The layouts: one table for each whole PDU, in byte order, body and fill included (source 000, Tables 3 and 5; IEEE 1278.1 for the DIS header),
+-- as document 01 condenses them. Lengths are fixed values of the table; each struct of the record has a run of slots of its own.
+use Prim.Native.Nat.{ℕ, _+_, _-_, _*_, _/_}
 use mathlib.Core.List.{List, [], _∷_, _++_}
 use Rattle.wire.specs.Table.{Slot, kept, padding, one, parts, keep, only, skip}
-use Rattle.pdu.specs.Numbers.{transmitterType, signalType, radioFamily, category, inputSource, patternLength, major, detail, system, modulationLength, encodingClass, tdlType}
+use Rattle.pdu.specs.Numbers
 
--- 01, "Bytes 0 to 19, both PDUs", for the PDU type given
-abbrev pub common : ℕ → List Slot
-common type =
+-- a size filled to a multiple of 4 (01: "filled to a multiple of 4")
+abbrev pub filled : ℕ → ℕ
+filled n = (n + 3) / 4 * 4
+
+-- the size of a Signal PDU whose body has n bytes (01: "32 plus the data bytes, filled"; the network header counts as data)
+abbrev pub signalSize : ℕ → ℕ
+signalSize n = filled (Numbers.signalLeast + (Numbers.networkBytes + n))
+
+-- the data length in bits of a Signal whose body has n bytes
+abbrev pub dataBits : ℕ → ℕ
+dataBits n = 8 * (Numbers.networkBytes + n)
+
+-- how many bytes fill a Signal with a body of n bytes
+abbrev pub fillOf : ℕ → ℕ
+fillOf n = signalSize n - (Numbers.bodyStart + n)
+
+-- 01, "Bytes 0 to 19, both PDUs", for the PDU type and the size given
+abbrev pub headerTable : ℕ → ℕ → List Slot
+headerTable type size =
     kept 1  -- 0 protocol version
     ∷ kept 1  -- 1 exercise
     ∷ one 1 type  -- 2 PDU type
-    ∷ one 1 radioFamily  -- 3 family
+    ∷ one 1 Numbers.radioFamily  -- 3 family
     ∷ kept 4  -- 4 timestamp
-    ∷ kept 2  -- 8 length
+    ∷ one 2 size  -- 8 length
     ∷ padding 2  -- 10
     ∷ kept 2  -- 12 site
     ∷ kept 2  -- 14 application
@@ -20,55 +37,79 @@ common type =
     ∷ kept 2  -- 18 radio
     ∷ []
 
--- 01, "Transmitter, 112 bytes"
-abbrev pub transmitterTable : List Slot
-transmitterTable =
-    common transmitterType
-    ++ (kept 1  -- 20 entity kind
+-- 01, "Transmitter, 112 bytes": bytes 20 to 31
+abbrev pub entityTable : List Slot
+entityTable =
+    kept 1  -- 20 entity kind
     ∷ kept 1  -- 21 domain
     ∷ kept 2  -- 22 country
-    ∷ one 1 category  -- 24
+    ∷ one 1 Numbers.category  -- 24
     ∷ kept 1  -- 25 nomenclature version
     ∷ kept 2  -- 26 nomenclature
     ∷ kept 1  -- 28 transmit state
-    ∷ one 1 inputSource  -- 29
+    ∷ one 1 Numbers.inputSource  -- 29
     ∷ padding 2  -- 30
-    ∷ kept 8  -- 32 antenna location, three numbers
+    ∷ []
+
+-- bytes 32 to 71
+abbrev pub antennaTable : List Slot
+antennaTable =
+    kept 8  -- 32 antenna location, three numbers
     ∷ kept 8  -- 40
     ∷ kept 8  -- 48
     ∷ kept 4  -- 56 relative location, three numbers
     ∷ kept 4  -- 60
     ∷ kept 4  -- 64
     ∷ kept 2  -- 68 pattern type
-    ∷ one 2 patternLength  -- 70
-    ∷ kept 8  -- 72 frequency
+    ∷ one 2 Numbers.patternLength  -- 70
+    ∷ []
+
+-- bytes 72 to 103
+abbrev pub emissionTable : List Slot
+emissionTable =
+    kept 8  -- 72 frequency
     ∷ kept 4  -- 80 bandwidth
     ∷ kept 4  -- 84 power
     ∷ kept 2  -- 88 spread spectrum
-    ∷ one 2 major  -- 90
-    ∷ one 2 detail  -- 92
-    ∷ one 2 system  -- 94
+    ∷ one 2 Numbers.major  -- 90
+    ∷ one 2 Numbers.detail  -- 92
+    ∷ one 2 Numbers.system  -- 94
     ∷ kept 2  -- 96 crypto system
     ∷ kept 2  -- 98 key ID
-    ∷ one 1 modulationLength  -- 100
+    ∷ one 1 Numbers.modulationLength  -- 100
     ∷ padding 3  -- 101
-    ∷ kept 1  -- 104 TSA level
+    ∷ []
+
+-- bytes 104 to 111
+abbrev pub syncTable : List Slot
+syncTable =
+    kept 1  -- 104 TSA level
     ∷ kept 1  -- 105 primary mode
     ∷ kept 1  -- 106 secondary mode
     ∷ kept 1  -- 107 synchronization state
     ∷ kept 4  -- 108 synchronization ID
-    ∷ [])
+    ∷ []
 
--- 01, "Signal", up to its body
-abbrev pub signalTable : List Slot
-signalTable =
-    common signalType
-    ++ (parts 2 (only 2 encodingClass ∷ keep 14 ∷ [])  -- 20 encoding
-    ∷ one 2 tdlType  -- 22
+-- 01, "Transmitter, 112 bytes"
+abbrev pub transmitterTable : List Slot
+transmitterTable =
+    headerTable Numbers.transmitterType Numbers.transmitterSize
+    ++ (entityTable ++ (antennaTable ++ (emissionTable ++ syncTable)))
+
+-- 01, "Signal": bytes 20 to 31, for a body of n bytes
+abbrev pub encodingTable : ℕ → List Slot
+encodingTable n =
+    parts 2 (only 2 Numbers.encodingClass ∷ keep 14 ∷ [])  -- 20 encoding
+    ∷ one 2 Numbers.tdlType  -- 22
     ∷ kept 4  -- 24 sample rate
-    ∷ kept 2  -- 28 data length in bits
+    ∷ one 2 (dataBits n)  -- 28 data length in bits
     ∷ kept 2  -- 30 samples
-    ∷ kept 2  -- 32 NPG
+    ∷ []
+
+-- bytes 32 to 51
+abbrev pub networkTable : List Slot
+networkTable =
+    kept 2  -- 32 NPG
     ∷ kept 1  -- 34 net
     ∷ kept 1  -- 35 TSEC
     ∷ kept 1  -- 36 MSEC
@@ -76,7 +117,16 @@ signalTable =
     ∷ padding 2  -- 38
     ∷ parts 4 (keep 8 ∷ skip 7 ∷ keep 17 ∷ [])  -- 40 slot ID: epoch, padding, slot
     ∷ kept 8  -- 44 perceived transmit time
-    ∷ [])
+    ∷ []
+
+-- from byte 52 on: the body's n bytes as one number ("carried unread", "every bit of a body"), and the fill
+abbrev pub bodyTable : ℕ → List Slot
+bodyTable n = kept n ∷ padding (fillOf n) ∷ []
+
+-- 01, "Signal", with a body of n bytes
+abbrev pub signalTable : ℕ → List Slot
+signalTable n =
+    headerTable Numbers.signalType (signalSize n) ++ (encodingTable n ++ (networkTable ++ bodyTable n))
 
 -- 01, "A word is an 80-bit number": sublabel in bits 7 to 9, label in 2 to 6, format in 0 and 1
 abbrev pub wordTable : List Slot

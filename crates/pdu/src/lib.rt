@@ -1,42 +1,101 @@
-// Reads and writes Link 16 PDUs (DIS Transmitter and Signal) as document 01 lays them out.
-// Every public call takes every input and is promised down to each bit of its answer and of the memory lent to it.
+// Link 16 PDUs (DIS Transmitter and Signal): the types that reading and writing share, the numbers of document 01 that other crates use,
+// and the tests of a record's fields. What reading and writing mean stands in specs/; the crates `reader` and `writer` do it.
 
-ghost use mathlib.Core.Path.{_≡_};
-ghost use mathlib.Core.List.{[], _∷_};
-ghost use lib.ListN.{length};
-ghost use Rattle.wire.specs.First.{first, told};
-ghost use Rattle.pdu.specs.Numbers.{transmitterSize};
-ghost use Rattle.pdu.specs.Records.{signalSize};
-ghost use Rattle.pdu.specs.Reading.{refusal, content, reading, numberOf, sizeOf};
-ghost use Rattle.pdu.specs.Writing.{transmitterBytes, transmitterWriting, signalBytes, signalWriting, answered, writtenSays, left, inWrittenForm, readingWritten};
+pub mod rules;
 
-mod common;
-mod signal_reader;
-mod signal_writer;
-mod transmitter_reader;
-mod transmitter_writer;
-pub mod words;
+// Bytes 0 to 19: the PDU types, their family, the versions taken, and the least bytes that hold a type.
+pub const TRANSMITTER_TYPE: u8 = 25;
 
-// The numbers of document 01 that the crates above use too.
+pub const SIGNAL_TYPE: u8 = 26;
+
+pub const RADIO_FAMILY: u8 = 4;
+
+pub const OLDER_VERSION: u8 = 5;
+
+pub const NEWER_VERSION: u8 = 6;
+
+pub const SHORTEST: usize = 12;
+
+// A Transmitter: its size, the least its length field may say, and its fields of one allowed value.
 pub const TRANSMITTER_SIZE: usize = 112;
 
+pub const TRANSMITTER_LEAST: u16 = 104;
+
+pub const CATEGORY: u8 = 21;
+
+pub const INPUT_SOURCE: u8 = 8;
+
+pub const PATTERN_LENGTH: u16 = 0;
+
+pub const MAJOR: u16 = 7;
+
+pub const DETAIL: u16 = 0;
+
+pub const SYSTEM: u16 = 8;
+
+pub const MODULATION_LENGTH: u8 = 8;
+
+// Bytes 104 to 111.
 pub const LAST_LEVEL: u8 = 4;
+
+pub const FIRST_ID_LEVEL: u8 = 3;
+
+pub const FIRST_PRIMARY_MODE: u8 = 1;
+
+pub const LAST_PRIMARY_MODE: u8 = 2;
+
+pub const LAST_SECONDARY_MODE: u8 = 3;
 
 pub const COARSE: u8 = 2;
 
 pub const FINE: u8 = 3;
 
+// A Signal: the least its length field may say, its encoding class above 14 kept bits, its TDL type.
+pub const SIGNAL_LEAST: u16 = 32;
+
+pub const ENCODING_CLASS: u16 = 1;
+
+pub const ENCODING_KEPT: u16 = 16384;
+
+pub const TDL_TYPE: u16 = 100;
+
+// The network header: its bytes, and the last value of each field.
+pub const NETWORK_BYTES: u16 = 20;
+
+pub const LAST_NPG: u16 = 511;
+
 pub const LAST_NET: u8 = 127;
 
-// Where a Signal's body starts.
+pub const LAST_SECURITY: u8 = 127;
+
+pub const NO_SECURITY: u8 = 255;
+
+pub const LAST_MESSAGE_TYPE: u8 = 7;
+
+// The slot ID: a slot in its low 17 bits, an epoch in its high 8.
+pub const SLOTS: u32 = 131072;
+
+pub const EPOCH_UNIT: u32 = 16777216;
+
+pub const LAST_SLOT: u32 = 98303;
+
+pub const LAST_EPOCH: u8 = 112;
+
+pub const LAST_SLOT_OF_LAST_EPOCH: u32 = 45151;
+
+// A PDU's size is a multiple of this.
+pub const FILL: usize = 4;
+
+// Where a Signal's body starts; a type 0 body's header and words; the most bytes of another body.
 pub const BODY_START: usize = 52;
 
-// A type 0 body: its header bytes, a word's bytes, the most words.
 pub const BODY_HEADER: usize = 6;
 
 pub const WORD_BYTES: usize = 10;
 
 pub const MOST_WORDS: usize = 12;
+
+pub const MOST_BYTES: usize = 256;
 
 // Bytes 0 to 19, which both PDUs share; type, family, length and padding are not kept.
 pub struct Header {
@@ -49,16 +108,17 @@ pub struct Header {
     pub radio: u16,
 }
 
-// A Transmitter's radio entity type, its category left out.
+// Bytes 20 to 31 of a Transmitter: its radio entity type, the category left out, and its transmit state.
 pub struct Entity {
     pub kind: u8,
     pub domain: u8,
     pub country: u16,
     pub version: u8,
     pub nomenclature: u16,
+    pub state: u8,
 }
 
-// Antenna location (three doubles), relative location (three singles), as bits, and the pattern type.
+// Bytes 32 to 71: antenna location (three doubles) and relative location (three singles), as bits, and the pattern type.
 pub struct Antenna {
     pub x: u64,
     pub y: u64,
@@ -69,9 +129,8 @@ pub struct Antenna {
     pub pattern: u16,
 }
 
-// Frequency, bandwidth and power as bits; spread spectrum; crypto system and key ID.
+// Bytes 72 to 103: frequency, bandwidth and power as bits; spread spectrum; crypto system and key ID.
 pub struct Emission {
-    pub state: u8,
     pub frequency: u64,
     pub bandwidth: u32,
     pub power: u32,
@@ -130,124 +189,14 @@ pub enum Written {
     Size(usize),
 }
 
+// What bytes hold that should be in written form: a PDU as the writer gives it, or something else.
+pub enum Carried {
+    Other,
+    Pdu(Reading),
+}
+
 // What stands at a word's place in a type 0 body.
 pub enum Word {
     Absent,
     Here { format: u8, label: u8, sublabel: u8 },
-}
-
-// The number of the first rule of reading that is broken, or 0 where the datagram is taken.
-pub fn reading_refusal(d: &[u8]) -> u8
-    ensures { λ r. ⌜ r ≡ refusal (now (d .entry)) ⌝ }
-{
-    let n = common::start_refusal(d);
-    if n != 0 {
-        return n;
-    }
-    if wire::u8_at(d, 2) == common::TRANSMITTER_TYPE {
-        transmitter_reader::refusal(d)
-    } else {
-        signal_reader::refusal(d)
-    }
-}
-
-// What a taken datagram holds.
-fn content(d: &[u8]) -> Reading
-    requires { ⌜ refusal (now d) ≡ 0 ⌝ }
-    ensures { λ r. ⌜ r ≡ content (now (d .entry)) ⌝ }
-{
-    if wire::u8_at(d, 2) == common::TRANSMITTER_TYPE {
-        Reading::Transmitter(transmitter_reader::fields(d))
-    } else {
-        let bits = wire::u16_at(d, 28);
-        Reading::Signal(
-            signal_reader::fields(d),
-            bits / 8 - signal_reader::NETWORK_BYTES,
-        )
-    }
-}
-
-// Reads a datagram: takes it exactly when it meets its layout and every rule of document 01, else gives the first refusal that applies.
-pub fn read(datagram: &[u8]) -> Reading
-    ensures { λ r. ⌜ r ≡ reading (now (datagram .entry)) ⌝ }
-{
-    let n = reading_refusal(datagram);
-    if n != 0 {
-        return Reading::Refused(n);
-    }
-    content(datagram)
-}
-
-// Reads what a trunk record carries: 22 where it is not what the writer would give.
-pub fn read_written(datagram: &[u8]) -> Reading
-    ensures { λ r. ⌜ r ≡ readingWritten (now (datagram .entry)) ⌝ }
-{
-    if wire::no(is_written(datagram)) {
-        return Reading::Refused(22);
-    }
-    content(datagram)
-}
-
-// Document 01's number of what reading answered: 0 where the datagram is taken.
-pub fn number(r: Reading) -> u8
-    ensures { λ n. ⌜ n ≡ numberOf r ⌝ }
-{
-    match r {
-        Reading::Refused(n) => n,
-        Reading::Transmitter(_) => 0,
-        Reading::Signal(_, _) => 0,
-    }
-}
-
-// The size of the PDU that reading took: 0 where the datagram is refused.
-pub fn size(r: Reading) -> u32
-    ensures { λ n. ⌜ n ≡ sizeOf r ⌝ }
-{
-    match r {
-        Reading::Refused(_) => 0,
-        Reading::Transmitter(_) => TRANSMITTER_SIZE as u32,
-        Reading::Signal(_, body) => signal_reader::signal_size(body as usize) as u32,
-    }
-}
-
-// Writes a Transmitter from the start of `out`.
-pub fn write_transmitter(t: Transmitter, out: &mut [u8]) -> Written
-    ensures answer { λ r. ⌜ r ≡ answered (first (transmitterWriting t (length (now (out .entry))))) transmitterSize ⌝ }
-    ensures says { λ r. ⌜ writtenSays r ≡ told (first (transmitterWriting t (length (now (out .entry))))) (transmitterSize ∷ []) ⌝ }
-    ensures output { λ _. ⌜ now (out .exit) ≡ left (first (transmitterWriting t (length (now (out .entry))))) (transmitterBytes t) (now (out .entry)) ⌝ }
-{
-    let n = transmitter_writer::refusal(t, out.len());
-    if n != 0 {
-        return Written::Refused(n);
-    }
-    transmitter_writer::put(out, t);
-    Written::Size(TRANSMITTER_SIZE)
-}
-
-// Writes a Signal, whose body is the whole slice, from the start of `out`.
-pub fn write_signal(s: Signal, body: &[u8], out: &mut [u8]) -> Written
-    ensures answer { λ r. ⌜ r ≡ answered (first (signalWriting s (length (now (body .entry))) (length (now (out .entry))))) (signalSize (length (now (body .entry)))) ⌝ }
-    ensures says { λ r. ⌜ writtenSays r ≡ told (first (signalWriting s (length (now (body .entry))) (length (now (out .entry))))) (signalSize (length (now (body .entry))) ∷ []) ⌝ }
-    ensures output { λ _. ⌜ now (out .exit) ≡ left (first (signalWriting s (length (now (body .entry))) (length (now (out .entry))))) (signalBytes s (now (body .entry))) (now (out .entry)) ⌝ }
-{
-    let n = signal_writer::refusal(s, body, out.len());
-    if n != 0 {
-        return Written::Refused(n);
-    }
-    signal_writer::put(out, s, body);
-    Written::Size(signal_reader::signal_size(body.len()))
-}
-
-// Whether a datagram is taken and already in written form: its padding, the fill included, is zero.
-pub fn is_written(datagram: &[u8]) -> bool
-    ensures { λ r. ⌜ r ≡ inWrittenForm (now (datagram .entry)) ⌝ }
-{
-    if common::start_refusal(datagram) != 0 {
-        return false;
-    }
-    if wire::u8_at(datagram, 2) == common::TRANSMITTER_TYPE {
-        transmitter_reader::is_written(datagram)
-    } else {
-        signal_reader::is_written(datagram)
-    }
 }

@@ -8,7 +8,7 @@ use trunk::Reply;
 use trunk::Sent;
 
 // A reply's length.
-const REPLY: usize = 5;
+const REPLY: usize = trunk::records::HEAD_SIZE;
 
 // `offer NUMBER`
 pub fn offered(answer: Offer) {

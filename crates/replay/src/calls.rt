@@ -11,7 +11,7 @@ use trunk::far_end;
 use trunk::near_end;
 
 // The store's right length.
-const STORE: usize = 1536;
+const STORE: usize = trunk::near_end::STORE_SIZE;
 
 // The near end, and the store that is lent to it: its bytes, of which the first `size` are lent.
 pub struct Side {

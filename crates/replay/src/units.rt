@@ -11,7 +11,7 @@ use trunk::Near;
 use trunk::far_end;
 use trunk::near_end;
 
-const PLACES: usize = 16;
+const PLACES: usize = station::PLACES;
 
 // `counts ACCEPTED ACKNOWLEDGED DELIVERED`
 fn show_counts(near: Near, far: Far) {

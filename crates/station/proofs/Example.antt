@@ -2,11 +2,11 @@
 -- Assumes nothing.
 use mathlib.Core.Path.{refl}
 use Rattle.occupancy.specs.Places.{least, wordOf}
-use Rattle.pdu.specs.Records.{transmitterOf, signalOf}
+use Rattle.pdu.specs.Rules.{wrongVersion, wrongSync, accessRules, slotRules, networkRules, bodyRules, innerRules}
+use Rattle.pdu.specs.Reading.{transmitterOf, signalOf, content, wrongType, wrongLength, wrongFixed, wrongBits, startRules, transmitterLayout}
+use Rattle.pdu.specs.Reading.{signalLayout, readingRules, refusal, reading}
 use Rattle.pdu.specs.Words.{wordAt}
-use Rattle.pdu.specs.Reading.{wrongVersion, wrongType, wrongLength, wrongFixed, wrongSync, wrongBits, networkRules, bodyRules}
-use Rattle.pdu.specs.Reading.{transmitterRules, signalRules, readingRules, refusal, content, reading}
-use Rattle.pdu.specs.Writing.{transmitterBytes, signalHead, signalBytes}
+use Rattle.pdu.specs.Forms.{bytesOf}
 use Rattle.station.specs.Units.{fresh, made, placeOf}
 use Rattle.station.specs.Hearing.{enter, renew, hearTransmitter, otherId, signalRules as stationRules, labelled, messageOf, afterJ00}
 use Rattle.station.specs.Hearing.{afterPpli, hearMessage, hearSignal, step, heard}
@@ -14,7 +14,9 @@ use Rattle.station.specs.Clock.{atTime, clocked}
 use Rattle.station.specs.Example.{ExampleRuns}
 
 pub runs : ExampleRuns
-unfolding transmitterBytes signalHead signalBytes transmitterOf signalOf wordAt wrongVersion wrongType wrongLength wrongFixed wrongSync
-    wrongBits networkRules bodyRules transmitterRules signalRules readingRules refusal content reading least wordOf fresh made placeOf enter
+unfolding bytesOf wordAt wrongVersion wrongSync accessRules slotRules networkRules bodyRules innerRules transmitterOf signalOf content
+    wrongType wrongLength
+    wrongFixed wrongBits startRules transmitterLayout signalLayout readingRules refusal reading
+    least wordOf fresh made placeOf enter
     renew hearTransmitter otherId stationRules labelled messageOf afterJ00 afterPpli hearMessage hearSignal step heard atTime clocked
 runs = record { first-answers = refl; first-state = refl; first-id = refl; second-answers = refl; second-state = refl }

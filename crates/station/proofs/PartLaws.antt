@@ -1,6 +1,6 @@
 -- Laws of the part of a station that one datagram can touch: put back as it was taken it leaves the station as it was, since a place that is
 -- stored with what stands in it is the same.
--- Assume nothing.
+-- Assumes nothing.
 use mathlib.Core.Path.{_≡_, ap, _∙_}
 use mathlib.Core.List.{List}
 use Prim.Native.Nat.{ℕ, _<_}

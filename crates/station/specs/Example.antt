@@ -5,8 +5,9 @@ use Prim.Native.Nat.{ℕ, _*_}
 use mathlib.Core.Path.{_≡_}
 use mathlib.Core.List.{List, [], _∷_, _++_}
 use lib.ListN.{replicate}
-use Rattle.pdu.specs.Writing.{transmitterBytes, signalBytes}
+use Rattle.pdu.specs.Forms.{bytesOf}
 use Rattle.pdu.specs.declared.Header.{Header}
+use Rattle.pdu.specs.declared.Reading.the-variants.{Transmitter, Signal}
 use Rattle.station.specs.Units.{idOf, stateOf, made}
 use Rattle.station.specs.Runs.{Call, datagram, time, after, answers}
 use Rattle.station.specs.declared.State.the-variants.{Coarse, Fine}
@@ -18,25 +19,25 @@ header = record { version = 6; exercise = 1; timestamp = 0; site = 1; applicatio
 abbrev pub unit : ℕ → Call
 unit level =
     datagram
-    (transmitterBytes (record {
+    (bytesOf (Transmitter (record {
       header = header;
-      entity = record { kind = 0; domain = 0; country = 0; version = 0; nomenclature = 0 };
+      entity = record { kind = 0; domain = 0; country = 0; version = 0; nomenclature = 0; state = 0 };
       antenna = record { x = 0; y = 0; z = 0; dx = 0; dy = 0; dz = 0; pattern = 0 };
-      emission = record { state = 0; frequency = 0; bandwidth = 0; power = 0; spread = 0; crypto = 0; key = 0 };
+      emission = record { frequency = 0; bandwidth = 0; power = 0; spread = 0; crypto = 0; key = 0 };
       sync = record { level = level; primary = 1; secondary = 0; state = 3; id = 9 };
-    }))
+    })) [])
 
 -- a type 0 Signal of that unit on net 5 with one initial word of this label
 abbrev pub say : ℕ → Call
 say label =
     datagram
-    (signalBytes (record {
+    (bytesOf (Signal (record {
       header = header;
       encoding = 0;
       rate = 0;
       samples = 0;
       network = record { npg = 0; net = 5; tsec = 255; msec = 255; «message_type» = 0; slot = 0; epoch = 0; time = 0 };
-    }) (replicate 15 0 ++ (label * 4 ∷ [])))
+    }) 16) (replicate 15 0 ++ (label * 4 ∷ [])))
 
 abbrev pub first-run : List Call
 first-run = say 0 ∷ unit 3 ∷ say 3 ∷ say 0 ∷ say 2 ∷ say 3 ∷ time 59 ∷ say 3 ∷ time 60 ∷ say 3 ∷ time 59 ∷ []

@@ -15,6 +15,9 @@ mod hear_signal;
 mod hear_transmitter;
 mod pass_time;
 
+// How many units a station holds at most.
+pub const PLACES: usize = occupancy::PLACES;
+
 // Each of the four numbers of a key has two bytes.
 const KEY_PART: u64 = 65536;
 
@@ -164,7 +167,7 @@ fn outcome_of(part: Part, read: Reading, datagram: &[u8]) -> Outcome
         Reading::Transmitter(t) => hear_transmitter::transmitter(part, t),
         Reading::Signal(g, size) => {
             let end = pdu::BODY_START + size as usize;
-            let word = pdu::words::at(&datagram[pdu::BODY_START..end], 0);
+            let word = reader::words::at(&datagram[pdu::BODY_START..end], 0);
             hear_signal::signal(part, g, word)
         }
     }
@@ -175,7 +178,7 @@ fn outcome_of(part: Part, read: Reading, datagram: &[u8]) -> Outcome
 pub fn hear(station: Station, datagram: &[u8]) -> Heard
     ensures { λ r. ⌜ r ≡ heard station (now (datagram .entry)) ⌝ }
 {
-    let read = pdu::read(datagram);
+    let read = reader::read(datagram);
     let key = sender_key(read);
     let mut units = station.units;
     let mut i = 0;

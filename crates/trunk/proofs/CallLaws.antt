@@ -13,8 +13,8 @@ use native.Mathlib.Omega.{arith}
 use borrow.Author.Tests.{eqb-true, eqb-false, ltb-true, ltb-false}
 use Rattle.wire.specs.Bytes.{Bytes}
 use Rattle.wire.specs.First.{first}
-use Rattle.pdu.specs.Plain.{Met, FirstBroken}
-use Rattle.pdu.proofs.RuleLaws.{Verdict}
+use Rattle.wire.specs.Rules.{Met, FirstBroken}
+use Rattle.wire.specs.Rules.{Verdict}
 use Rattle.trunk.specs.Head.{headSize}
 use Rattle.trunk.specs.Kinds.{recordSize}
 use Rattle.trunk.specs.Record.{replyOf, numberIn, carriedIn}

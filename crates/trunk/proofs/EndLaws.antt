@@ -10,31 +10,21 @@ use lib.ListN.{length, take, drop, length-take, length-drop}
 use lib.Dec.{eqb}
 use native.Mathlib.Nat.{add-sub-cancel-left}
 use native.Mathlib.Omega.{arith}
-use borrow.Author.Tests.{eqb-true, eqb-false, ne-eqb, ltb-false, lt-ltb, le-ltb, not-true, not-false}
+use borrow.Author.Tests.{eqb-true, eqb-false, ne-eqb, ltb-false, lt-ltb, le-ltb, not-false}
 use Rattle.wire.specs.Bytes.{splice}
-use Rattle.wire.specs.First.{Refusal, _given-when_, first, numbered}
+use Rattle.wire.specs.First.{Refusal, _given-when_, first}
 use Rattle.wire.proofs.ByteLaws.{splice-start}
-use Rattle.wire.proofs.TableLaws.{both-true}
-use Rattle.wire.proofs.FirstLaws.{unbroken, none-behind, first-here, first-next}
-use Rattle.pdu.proofs.RuleLaws.{not-below, neither}
+use Rattle.wire.proofs.FirstLaws.{unbroken, none-of, first-here, first-next}
+use Rattle.wire.proofs.RuleLaws.{not-below, neither}
 use Rattle.trunk.specs.Head.{headSize}
 use Rattle.trunk.specs.Kinds.{load, isUnknown, recordSize, longestPdu, longestRecord, noKind}
 use Rattle.trunk.specs.Record.{kindIn, numberIn, lastNumber, unknownKind, wrongSize, isReply, lastOfAll, formRules, pduRules, checkRules}
-use Rattle.trunk.specs.Near.{rowSize, storeSize, rowStart, rowKind, rowRecord, offerRulesOf, sendRules, replyRest, replyRules}
+use Rattle.trunk.specs.Near.{storeSize, wrongStore, rowStart, rowKind, rowRecord, offerRest, offerRulesOf, sendRules, replyRest, replyRules}
 use Rattle.trunk.specs.Far.{roomRules, arrivalRest, arrivalRules, isNext}
 use Rattle.trunk.specs.declared.Near.{Near}
 use Rattle.trunk.proofs.KindLaws.{record-small}
 
 -- ---- rules in order
-
--- where no rule of two lists in a row is broken, none of either is
-pub none-of : (a b : List Refusal) → numbered a ≡ true → first (a ++ b) ≡ 0 → (first a ≡ 0) × (first b ≡ 0)
-none-of [] b u e = (refl, e)
-none-of ((n given-when true) ∷ a) b u e = absurd (eqb-false n 0 (positive n (numbered a) u) e)
-  where
-    positive : (m : ℕ) (t : Bool) → (not (eqb m 0) && t) ≡ true → eqb m 0 ≡ false
-    positive m t v = not-true (eqb m 0) (both-true (not (eqb m 0)) t v .0)
-none-of ((n given-when false) ∷ a) b u e = none-of a b (both-true (not (eqb n 0)) (numbered a) u .1) e
 
 -- the reader's own number, where it is the refusal
 reader-passes : (n : ℕ) (rest : List Refusal) → first ((n given-when not (eqb n 0)) ∷ rest) ≡ 0 → (n ≡ 0) × (first rest ≡ 0)
@@ -68,7 +58,8 @@ pub record Formed (r : List ℕ) : Type 0 where
 pub formed : (r : List ℕ) → first (formRules r) ≡ 0 → Formed r
 unfolding formRules wrongSize
 formed r e =
-    let exact : length r ≡ recordSize (kindIn r) = eqb-true _ _ (not-false _ (unbroken 1 (formRules r) refl e)) in
+    let (known, (sized, end)) = unbroken (formRules r) refl e in
+    let exact : length r ≡ recordSize (kindIn r) = eqb-true _ _ (not-false _ sized) in
     record { head = omega arith; short = omega (arith, record-small (kindIn r)) }
 
 -- a broken rule on the form, or on the PDU, is the first; where there is none, the rules behind them answer
@@ -113,14 +104,11 @@ pub record OfferFits (near : Near) (size kind : ℕ) : Type 0 where
 pub offer-fits : (near : Near) (size read kind : ℕ) → first (offerRulesOf near size read kind) ≡ 0 → OfferFits near size kind
 unfolding offerRulesOf
 offer-fits near size read kind e =
-    let rules = offerRulesOf near size read kind in
-    let store = none-of (take 1 rules) (drop 1 rules) refl e in
-    let reader = reader-passes read (drop 2 rules) (store .1) in
-    record {
-      store = eqb-true _ _ (not-false _ (unbroken 0 rules refl e));
-      carried = eqb-false _ _ (unbroken 0 (drop 2 rules) refl (reader .1));
-      number = eqb-false _ _ (unbroken 1 (drop 2 rules) refl (reader .1));
-    }
+    let store-rule = (28 given-when wrongStore size) ∷ [] in
+    let (store, behind) = none-of store-rule ((read given-when not (eqb read 0)) ∷ offerRest near kind) refl e in
+    let (full, end) = unbroken store-rule refl store in
+    let (carried, (number, window)) = unbroken (offerRest near kind) refl (reader-passes read (offerRest near kind) behind .1) in
+    record { store = eqb-true _ _ (not-false _ full); carried = eqb-false _ _ carried; number = eqb-false _ _ number }
 
 -- a send that is taken: the store has its size, and the buffer has room for the record
 pub record SendFits (store : List ℕ) (i room : ℕ) : Type 0 where
@@ -130,11 +118,8 @@ pub record SendFits (store : List ℕ) (i room : ℕ) : Type 0 where
 pub send-fits : (near : Near) (store : List ℕ) (i room : ℕ) → first (sendRules near store i room) ≡ 0 → SendFits store i room
 unfolding sendRules
 send-fits near store i room e =
-    let rules = sendRules near store i room in
-    record {
-      full = eqb-true _ _ (not-false _ (unbroken 0 rules refl e));
-      space = ltb-false _ _ (unbroken 4 rules refl e);
-    }
+    let (full, (held, (known, (no-reply, (space, end))))) = unbroken (sendRules near store i room) refl e in
+    record { full = eqb-true _ _ (not-false _ full); space = ltb-false _ _ space }
 
 -- a row's record, copied to a buffer's start
 pub row-copied :
@@ -163,15 +148,20 @@ pub record ArrivalFits (r : List ℕ) (replyRoom room : ℕ) : Type 0 where
 -- a PDU record that 25 does not stop
 last-not : (r : List ℕ) → isReply r ≡ false → first (pduRules r) ≡ 0 → numberIn r ≢ lastNumber
 unfolding pduRules lastOfAll
-last-not r pdu e = eqb-false _ _ (sym (ap (λ (b : Bool). not b && eqb (numberIn r) lastNumber) pdu) ∙ unbroken 0 (pduRules r) refl e)
+last-not r pdu e =
+    let (last, carried) = unbroken (pduRules r) refl e in
+    eqb-false _ _ (sym (ap (λ (b : Bool). not b && eqb (numberIn r) lastNumber) pdu) ∙ last)
 
 pub arrival-fits : (r : List ℕ) (replyRoom room : ℕ) → first (arrivalRules r replyRoom room) ≡ 0 → ArrivalFits r replyRoom room
 unfolding arrivalRules
 arrival-fits r replyRoom room e =
     let form = form-none r (arrivalRest r replyRoom room) e in
-    let no-reply = unbroken 0 (arrivalRest r replyRoom room) refl (form .1) in
-    let pdu = pdu-none r (roomRules replyRoom room) (none-behind 1 (arrivalRest r replyRoom room) refl (form .1)) in
-    let space = neither _ _ (not-below replyRoom _) (not-below room _) .0 (unbroken 0 (roomRules replyRoom room) refl (pdu .1)) in
+    let reply-rule = (29 given-when isReply r) ∷ [] in
+    let (reply, behind) = none-of reply-rule (pduRules r ++ roomRules replyRoom room) refl (form .1) in
+    let (no-reply, end) = unbroken reply-rule refl reply in
+    let pdu = pdu-none r (roomRules replyRoom room) behind in
+    let (roomy, end′) = unbroken (roomRules replyRoom room) refl (pdu .1) in
+    let space = neither _ _ (not-below replyRoom _) (not-below room _) .0 roomy in
     record {
       form = formed r (form .0);
       reply = space .0;

@@ -9,8 +9,8 @@ use lib.ListN.{length, getD}
 use native.Mathlib.Omega.{arith}
 use Rattle.wire.specs.Bytes.{Bytes}
 use Rattle.wire.specs.First.{Refusal}
-use Rattle.pdu.specs.Plain.{Rule, Met, FirstBroken}
-use Rattle.pdu.proofs.RuleLaws.{Verdict}
+use Rattle.wire.specs.Rules.{Rule, Met, FirstBroken}
+use Rattle.wire.specs.Rules.{Verdict}
 use Rattle.station.specs.Hearing.{heard}
 use Rattle.trunk.specs.Kinds.{recordSize}
 use Rattle.trunk.specs.Record.{numberIn, carriedIn}

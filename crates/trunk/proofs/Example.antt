@@ -13,10 +13,11 @@ use native.Mathlib.Omega.{arith}
 use borrow.Author.Tests.{eqb-true, ltb-true}
 use Rattle.wire.specs.Bytes.{big, Bytes}
 use Rattle.wire.proofs.TableLaws.{both-true}
-use Rattle.pdu.specs.Records.{transmitterOf, signalOf}
-use Rattle.pdu.specs.Reading.{wrongVersion, wrongType, wrongLength, wrongFixed, wrongSync, wrongBits, networkRules, bodyRules, transmitterRules}
-use Rattle.pdu.specs.Reading.{signalRules, readingRules, refusal, content, reading}
-use Rattle.pdu.specs.Writing.{transmitterBytes, signalHead, signalBytes, writtenForm, inWrittenForm}
+use Rattle.pdu.specs.Rules.{wrongVersion, wrongSync, accessRules, slotRules, networkRules, bodyRules, innerRules}
+use Rattle.pdu.specs.Forms.{bytesOf}
+use Rattle.pdu.specs.Reading.{transmitterOf, signalOf, content, wrongType, wrongLength, wrongFixed, wrongBits, startRules, transmitterLayout}
+use Rattle.pdu.specs.Reading.{signalLayout, readingRules, refusal, reading}
+use Rattle.pdu.specs.Writing.{writtenForm, inWrittenForm}
 use Rattle.station.specs.Units.{made}
 use Rattle.trunk.specs.Kinds.{load, longestPdu}
 use Rattle.trunk.specs.Record.{headFor, recordOf, replyOf, unknownKind, wrongSize, isReply, lastOfAll, wrongCarried, formRules, pduRules}
@@ -223,8 +224,8 @@ computed :
 unfolding fair allowed among same said story before after-all sending arriving record-0 record-1 record-2 unit entry-message ppli order
     signal start-of zeros offered storeAfter offerRulesOf sent sentOut sendRules replied replyRules arrived isNext countAfter replyAfter
     outputAfter arrivalRules ticked recordOf load unknownKind wrongSize isReply lastOfAll wrongCarried formRules pduRules wrongVersion
-    wrongType wrongLength wrongFixed wrongSync wrongBits networkRules bodyRules transmitterRules signalRules readingRules refusal content
-    reading transmitterOf signalOf transmitterBytes signalHead signalBytes writtenForm inWrittenForm
+    wrongType wrongLength wrongFixed wrongSync wrongBits networkRules bodyRules readingRules refusal content reading transmitterOf
+    signalOf writtenForm inWrittenForm accessRules slotRules innerRules bytesOf startRules transmitterLayout signalLayout
 computed = (refl, refl, refl, refl, refl)
 
 -- the list is fair, so demand 3 speaks of it; each call answers as its line says; four PDUs are accepted, three put out, two acknowledged

@@ -2,12 +2,12 @@
 -- record's head and carried bytes read back; and the record of a carried PDU, or a reply, breaks no rule on records. What is cited of the
 -- reader and the writer stands here and in WriteLaws.
 -- Assumes nothing.
-use Prim.Native.Nat.{ℕ, _+_, _*_, _≤_, _<_}
+use Prim.Native.Nat.{ℕ, _+_, _≤_, _<_}
 use mathlib.Core.Path.{_≡_, refl, sym, ap, subst, _∙_}
 use mathlib.Core.Logic.{_↔_, _≢_, Iff·trans}
 use mathlib.Core.Bool.{Bool, true, false, cond, not, _&&_, and-false}
-use mathlib.Core.List.{List, [], _∷_, _++_}
-use lib.ListN.{length, getD, take, length-append}
+use mathlib.Core.List.{List, [], _++_}
+use lib.ListN.{length, take, length-append}
 use lib.Seq.{take-at, drop-at}
 use lib.Dec.{eqb}
 use native.Mathlib.Nat.{zero-add}
@@ -17,17 +17,17 @@ use Rattle.wire.specs.Bytes.{Bytes}
 use Rattle.wire.specs.Table.{Fit}
 use Rattle.wire.proofs.TableLaws.{read-fill, length-fill}
 use Rattle.wire.proofs.FitLaws.{bytes-append, bytes-fill}
-use Rattle.pdu.specs.Records.{signalSize}
+use Rattle.pdu.specs.Tables.{signalSize}
 use Rattle.pdu.specs.Words.{wordsIn}
-use Rattle.pdu.specs.Reading.{reading, refusal, numberOf, sizeOf}
+use Rattle.pdu.specs.Reading.{reading, refusal, numberOf}
+use Rattle.pdu.specs.Forms.{sizeOf}
 use Rattle.pdu.specs.Writing.{writtenForm, inWrittenForm}
-use Rattle.pdu.specs.declared.Signal.{Signal as SignalFields}
 use Rattle.pdu.specs.declared.Reading.{Reading}
 use Rattle.pdu.specs.declared.Reading.the-variants.{Refused, Transmitter as aTransmitter, Signal as aSignal}
-use Rattle.pdu.proofs.RuleLaws.{negated, both-then}
-use Rattle.pdu.proofs.Carried.{transmitter-refusal, signal-refusal, taken-words}
-use Rattle.pdu.proofs.TakenExactly.{reads-as, refusal-read}
-use Rattle.pdu.proofs.WrittenForm.{written-form, written-form-exactly, written-form-holds}
+use Rattle.wire.proofs.RuleLaws.{negated, both-then}
+use Rattle.pdu.proofs.Answers.{reads-as, refuses-as, refusal-read}
+use Rattle.pdu.proofs.RoundTrip.{written-form, written-form-exactly, written-form-holds}
+use Rattle.pdu.proofs.ReadLaws.{taken-words}
 use Rattle.trunk.specs.Head.{headTable, headSize, headValues, headAt, headOf, headBytes}
 use Rattle.trunk.specs.Kinds.{load, loadSize, isUnknown, isNothing, recordSize, replyKind, noKind, kindFor, loadOf, loadOfSignal, kindOf}
 use Rattle.trunk.specs.Record.{headFor, recordOf, replyOf, kindIn, numberIn, carriedIn, lastNumber, unknownKind, wrongSize, isReply}
@@ -93,12 +93,12 @@ carried-kind d h = by (reading d) refl h
 
     by : (r : Reading) → reading d ≡ r → kindOf r ≢ noKind → CarriedKind d
     by (Refused n) e c = absurd (c refl)
-    by (aTransmitter t) e c = made (aTransmitter t) e (transmitter-refusal d t e) (carries-transmitter _ refl)
+    by (aTransmitter t) e c = made (aTransmitter t) e (reads-as d (aTransmitter t) tt e .0) (carries-transmitter _ refl)
     by (aSignal s n) e c =
         let type = carried-type (s .network .«message_type») n c in
         let words = taken-words d s n e type in
         let this : loadOf (aSignal s n) ≡ Words (wordsIn n) = ap (λ (k : ℕ). loadOfSignal k n) type in
-        made (aSignal s n) e (signal-refusal d s n e)
+        made (aSignal s n) e (reads-as d (aSignal s n) tt e .0)
         (subst (λ (l : Load). Carries l (signalSize n)) (sym this)
         (carries-words (wordsIn n) (signalSize n) (words .1) (ap signalSize (sym (words .0)))))
 
@@ -114,7 +114,7 @@ type-says d z = Iff·trans (eqb-false _ _, ne-eqb _ _) (typed, carried)
     carried t = by (reading d) refl
       where
         by : (r : Reading) → reading d ≡ r → kindOf r ≢ noKind
-        by (Refused n) e = λ k. reads-as d (Refused n) .0 e .1 (sym (reads-as d (Refused n) .0 e .0) ∙ z)
+        by (Refused n) e = λ k. let h = refuses-as d n .0 e in h .1 (sym (h .0) ∙ z)
         by (aTransmitter t) e = λ k. omega arith
         by (aSignal s n) e =
             let type = t s n e in

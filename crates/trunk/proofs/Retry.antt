@@ -5,19 +5,17 @@
 use Prim.Native.Nat.{ℕ, zero, suc, _+_, _≤_, _<_}
 use mathlib.Core.Path.{_≡_, refl, sym, ap, subst, _∙_}
 use mathlib.Core.Bool.{Bool, true, false, cond}
-use mathlib.Core.List.{List, [], _∷_, _++_, append-nil, List·Memᴰ, List·Memᴰ·head, Memᴰ·append-right}
+use mathlib.Core.List.{List, [], _++_, append-nil, List·Memᴰ, List·Memᴰ·head, Memᴰ·append-right}
 use lib.ListN.{length, take}
 use lib.Seq.{take-all}
 use lib.Dec.{ltb}
 use native.Mathlib.Omega.{arith}
 use borrow.Author.Tests.{ltb-true, ltb-false}
-use Rattle.station.specs.Units.{made}
 use Rattle.station.specs.declared.Station.{Station}
 use Rattle.trunk.specs.Head.{headSize}
 use Rattle.trunk.specs.Kinds.{longestPdu}
 use Rattle.trunk.specs.Near.{rows, rowSize, sent, sentOut, replied}
-use Rattle.trunk.specs.Far.{replyAfter}
-use Rattle.trunk.specs.Line.{send-made, Call, send, to-near, to-far, Line, start, step, run, accepted, putOut, acknowledged, written}
+use Rattle.trunk.specs.Line.{send-made, Call, send, Line, start, step, run, accepted, acknowledged, written}
 use Rattle.trunk.specs.Line.{writtenBy, Fair}
 use Rattle.trunk.specs.Demand.{count}
 use Rattle.trunk.specs.Retries.{round, afterRound, rounds, Through}

@@ -1,24 +1,25 @@
 -- Each call's tests say the same as the plain rules in their place, so its refusal number is 0 exactly where every rule holds, and is n exactly
 -- where n is the number of the first that does not. By the laws of tests and of rules in order.
 -- Assumes nothing.
-use Prim.Native.Nat.{ℕ, _+_, _-_, _≤_, _<_}
+use Prim.Native.Nat.{ℕ, _-_, _≤_, _<_}
 use mathlib.Core.Path.{_≡_, refl, sym, _∙_}
 use mathlib.Core.Logic.{_↔_, _≢_, inl, inr, Iff·trans}
 use mathlib.Core.Bool.{Bool, true, false, not, true≢false}
 use mathlib.Core.List.{List, _∷_}
 use lib.ListN.{length}
-use lib.Dec.{eqb, ltb, leb}
+use lib.Dec.{eqb, leb}
 use native.Mathlib.Omega.{arith}
 use borrow.Author.Tests.{le-ltb, not-true, eqb-false, ne-eqb, ltb-true, lt-ltb}
 use Rattle.wire.specs.Bytes.{num, Bytes}
 use Rattle.wire.specs.First.{Refusal, _given-when_, first}
 use Rattle.wire.proofs.FitLaws.{bytes-drop}
-use Rattle.pdu.specs.Plain.{Rule, _unless_, Met}
+use Rattle.wire.specs.Rules.{Rule, _unless_, Met}
+use Rattle.wire.proofs.RuleLaws.{equal, at-most, below, not-below, negated, both, neither, if-so, done, _then_, verdict}
+use Rattle.wire.specs.Rules.{Verdict}
 use Rattle.pdu.specs.Reading.{refusal}
-use Rattle.pdu.proofs.RuleLaws.{equal, at-most, below, not-below, negated, both, neither, if-so, done, _then_, Verdict, verdict}
 use Rattle.trunk.specs.Head.{headSize}
 use Rattle.trunk.specs.Kinds.{longestPdu}
-use Rattle.trunk.specs.Record.{numberIn, carriedIn, lastNumber, unknownKind, wrongSize, isReply, lastOfAll, wrongCarried, formRules, pduRules}
+use Rattle.trunk.specs.Record.{carriedIn, unknownKind, wrongSize, isReply, lastOfAll, wrongCarried, formRules, pduRules}
 use Rattle.trunk.specs.Near.{rows, wrongStore, offerRulesOf, offerRules, isHeld, sendRules, replyRules}
 use Rattle.trunk.specs.Far.{noRoom, arrivalRules}
 use Rattle.trunk.specs.Plain.{StoreRule, NumberRule, WindowRule, RoomRule, ReplyKind, KindRule, LengthRule, CarriedRule, TypeRule}

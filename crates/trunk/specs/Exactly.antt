@@ -6,7 +6,7 @@ use mathlib.Core.Logic.{_↔_}
 use mathlib.Core.List.{List}
 use lib.ListN.{length, drop}
 use Rattle.wire.specs.Bytes.{num}
-use Rattle.pdu.specs.Plain.{Met, FirstBroken}
+use Rattle.wire.specs.Rules.{Met, FirstBroken}
 use Rattle.station.specs.Hearing.{heard}
 use Rattle.trunk.specs.Plain.{plainLength, plainRowKind, plainOffer, plainSend, plainReply, plainArrival}
 use Rattle.trunk.specs.declared.Near.{Near}

@@ -5,10 +5,12 @@ use mathlib.Core.Bool.{Bool, true, false, cond, _&&_}
 use mathlib.Core.List.{List, [], _∷_}
 use lib.Dec.{eqb, leb}
 use Rattle.pdu.specs.Numbers.{transmitterSize, bodyHeader, wordBytes, mostWords}
-use Rattle.pdu.specs.Records.{signalSize}
+use Rattle.pdu.specs.Tables.{signalSize}
 use Rattle.pdu.specs.Words.{wordsIn}
 use Rattle.pdu.specs.declared.Reading.{Reading}
 use Rattle.pdu.specs.declared.Reading.the-variants.{Refused, Transmitter as aTransmitter, Signal as aSignal}
+use Rattle.pdu.specs.declared.Carried.{Carried}
+use Rattle.pdu.specs.declared.Carried.the-variants.{Other, Pdu}
 use Rattle.trunk.specs.Head.{headSize}
 use Rattle.trunk.specs.declared.Load.{Load}
 use Rattle.trunk.specs.declared.Load.the-variants.{Words, Transmitter, Nothing, Unknown}
@@ -109,3 +111,8 @@ loadOf (aSignal s n) = loadOfSignal (s .network .«message_type») n
 
 abbrev pub kindOf : Reading → ℕ
 kindOf answer = kindFor (loadOf answer)
+
+-- the kind of what bytes hold that should be in written form, or none
+abbrev pub kindCarried : Carried → ℕ
+kindCarried Other = noKind
+kindCarried (Pdu answer) = kindOf answer

@@ -47,15 +47,18 @@ wrongStore size = not (eqb size storeSize)
 
 -- ---- offering
 
--- "Order: 28, the reader's number, 23, 25, 24", by the store's length, the reader's number and the kind of what was read
-unfoldable pub offerRulesOf : Near → ℕ → ℕ → ℕ → List Refusal
-offerRulesOf near size read kind =
-    (28 given-when wrongStore size)
-    ∷ (read given-when not (eqb read 0))
-    ∷ (23 given-when eqb kind noKind)
+-- 23, 25, 24, by the kind of what was read
+abbrev pub offerRest : Near → ℕ → List Refusal
+offerRest near kind =
+    (23 given-when eqb kind noKind)
     ∷ (25 given-when eqb (near .accepted) lastNumber)
     ∷ (24 given-when leb rows (near .accepted - near .acknowledged))
     ∷ []
+
+-- "Order: 28, the reader's number, 23, 25, 24", by the store's length, the reader's number and that kind
+unfoldable pub offerRulesOf : Near → ℕ → ℕ → ℕ → List Refusal
+offerRulesOf near size read kind =
+    (28 given-when wrongStore size) ∷ (read given-when not (eqb read 0)) ∷ offerRest near kind
 
 abbrev pub offerRules : Near → List ℕ → List ℕ → List Refusal
 offerRules near store d = offerRulesOf near (length store) (numberOf (reading d)) (kindOf (reading d))

@@ -9,7 +9,7 @@ use mathlib.Core.List.{List, [], _∷_}
 use lib.ListN.{length, getD, drop}
 use lib.Dec.{eqb}
 use Rattle.wire.specs.Bytes.{num}
-use Rattle.pdu.specs.Plain.{Rule, _unless_}
+use Rattle.wire.specs.Rules.{Rule, _unless_}
 use Rattle.pdu.specs.Reading.{reading, refusal}
 use Rattle.pdu.specs.Writing.{writtenForm}
 use Rattle.pdu.specs.declared.Transmitter.{Transmitter as TransmitterFields}

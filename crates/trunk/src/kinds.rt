@@ -1,9 +1,11 @@
 // The kinds of record: one table of what each carries, and what follows from it.
 ghost use mathlib.Core.Path.{_≡_};
 ghost use Prim.Native.Nat.{_≤_};
-ghost use Rattle.trunk.specs.Kinds.{load, loadSize, recordSize, longestRecord, isUnknown, isNothing, kindFor, loadOfSignal, kindOf};
+ghost use Rattle.trunk.specs.Kinds.{load, loadSize, recordSize, longestRecord, isUnknown, isNothing, kindFor, loadOfSignal};
+ghost use Rattle.trunk.specs.Kinds.{kindOf, kindCarried};
 use crate::Load;
 use crate::records;
+use pdu::Carried;
 use pdu::Reading;
 
 const FIRST_WORDS: u8 = 0;
@@ -21,9 +23,6 @@ pub(crate) const NO_KIND: u16 = 256;
 pub(crate) const LONGEST_PDU: usize = 180;
 
 pub const LONGEST_RECORD: usize = records::HEAD_SIZE + LONGEST_PDU;
-
-// A PDU's size is a multiple of this.
-const FILL: usize = 4;
 
 // What a record of this kind carries.
 pub fn load(kind: u8) -> Load
@@ -44,7 +43,7 @@ fn load_size(load: Load) -> usize
     match load {
         Load::Words(n) => {
             let bytes = pdu::BODY_START + pdu::BODY_HEADER + pdu::WORD_BYTES * n as usize;
-            (bytes + FILL - 1) / FILL * FILL
+            (bytes + pdu::FILL - 1) / pdu::FILL * pdu::FILL
         }
         Load::Transmitter => pdu::TRANSMITTER_SIZE,
         Load::Nothing => 0,
@@ -116,5 +115,15 @@ pub(crate) fn kind_of(answer: Reading) -> u16
         Reading::Refused(_) => kind_for(Load::Unknown),
         Reading::Transmitter(_) => kind_for(Load::Transmitter),
         Reading::Signal(s, n) => kind_for(load_of_signal(s.network.message_type, n)),
+    }
+}
+
+// The kind of what bytes hold that should be in written form, or `NO_KIND`.
+pub(crate) fn kind_of_carried(carried: Carried) -> u16
+    ensures { λ r. ⌜ r ≡ kindCarried carried ⌝ }
+{
+    match carried {
+        Carried::Other => NO_KIND,
+        Carried::Pdu(answer) => kind_of(answer),
     }
 }

@@ -26,7 +26,7 @@ const ROWS: u32 = 8;
 
 const ROW_SIZE: usize = 192;
 
-const STORE_SIZE: usize = ROWS as usize * ROW_SIZE;
+pub const STORE_SIZE: usize = ROWS as usize * ROW_SIZE;
 
 // A near end before its first call.
 pub fn new() -> Near
@@ -99,11 +99,11 @@ fn put_pdu(out: &mut [u8], answer: Reading, datagram: &[u8])
     match answer {
         Reading::Refused(_) => {}
         Reading::Transmitter(t) => {
-            pdu::write_transmitter(t, out);
+            writer::write_transmitter(t, out);
         }
         Reading::Signal(s, n) => {
             let end = pdu::BODY_START + n as usize;
-            pdu::write_signal(s, &datagram[pdu::BODY_START..end], out);
+            writer::write_signal(s, &datagram[pdu::BODY_START..end], out);
         }
     }
 }
@@ -121,9 +121,9 @@ fn put_record(row: &mut [u8], head: Head, answer: Reading, datagram: &[u8])
 pub fn offer(near: Near, store: &mut [u8], datagram: &[u8]) -> Offered
     ensures { λ r. ⌜ OfferGives near (now (store .entry)) (now (datagram .entry)) r (now (store .exit)) ⌝ }
 {
-    let answer = pdu::read(datagram);
+    let answer = reader::read(datagram);
     let kind = kinds::kind_of(answer);
-    let n = offer_refusal(near, store.len(), pdu::number(answer), kind);
+    let n = offer_refusal(near, store.len(), reader::number(answer), kind);
     if n != 0 {
         return Offered {
             near,

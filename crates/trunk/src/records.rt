@@ -16,7 +16,7 @@ use crate::kinds;
 // Where the number stands in a head, and the head's width.
 const NUMBER_AT: usize = 1;
 
-pub(crate) const HEAD_SIZE: usize = 5;
+pub const HEAD_SIZE: usize = 5;
 
 // The number that no PDU takes.
 pub(crate) const LAST_NUMBER: u32 = 4294967295;
@@ -67,7 +67,7 @@ fn wrong_carried(r: &[u8]) -> bool
     }
     let kind = kind_at(r, 0) as u16;
     let pdu = &r[HEAD_SIZE..];
-    wire::no(kinds::kind_of(pdu::read_written(pdu)) == kind)
+    wire::no(kinds::kind_of_carried(reader::read_carried(pdu)) == kind)
 }
 
 // The number of the first broken rule on a record's form, or 0.

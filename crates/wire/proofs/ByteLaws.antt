@@ -5,7 +5,7 @@ use Prim.Native.Nat.{ℕ, zero, suc, _+_, _*_, _/_, _%_, _^_, _≤_, _<_}
 use mathlib.Core.Path.{_≡_, refl, sym, ap, ap₂, _∙_}
 use mathlib.Core.Bool.{Bool, true, false, _&&_}
 use mathlib.Core.List.{List, [], _∷_, _++_, append-assoc}
-use lib.ListN.{length, getD, take, drop, set, length-append, length-drop}
+use lib.ListN.{length, getD, take, drop, set, replicate, length-append, length-drop}
 use lib.Seq.{getD-append-add, getD-at, getD-drop, take-suc, length-take-le, sets-eq}
 use lib.Arith.{digits-div, digits-mod, mod-mul}
 use lib.Dec.{eqb}
@@ -26,6 +26,17 @@ splice-append at [] b l = ap (λ (n : ℕ). splice n b l) (add-zero at)
 splice-append at (x ∷ a) b l =
     ap (λ (n : ℕ). splice n b (splice (suc at) a (set l at x))) (add-suc at (length a) ∙ sym (suc-add at (length a)))
     ∙ splice-append (suc at) a b (set l at x)
+
+-- bytes written behind the n bytes that were written before them
+pub beside : {x y : List ℕ} (at n : ℕ) (a b l : List ℕ)
+    → length a ≡ n
+    → y ≡ splice (at + n) b x
+    → x ≡ splice at a l
+    → y ≡ splice at (a ++ b) l
+beside at n a b l long second first =
+    second
+    ∙ ap₂ (λ (k : ℕ) (m : List ℕ). splice (at + k) b m) (sym long) first
+    ∙ splice-append at a b l
 
 -- a number behind a prefix is read as from its own start
 pub num-append : (w i : ℕ) (p q : List ℕ) → num w (length p + i) (p ++ q) ≡ num w i q
@@ -48,6 +59,35 @@ num-big (suc w) v q =
     pow-lt-pos : (k : ℕ) → 0 < 256 ^ k
     pow-lt-pos zero = omega arith
     pow-lt-pos (suc k) = rw (pow-suc 256 k) (omega (arith, pow-lt-pos k))
+
+-- a number's last byte is that of what stands below 256 of something
+byte-of : (h x : ℕ) → (h * 256 + x) % 256 ≡ x % 256
+byte-of h x = omega arith
+
+-- a number's eight bytes are the four of its high half and the four of its low half: each quotient by 256 is taken of both halves
+pub big-halves : (v : ℕ) → big 8 v ≡ big 4 (v / 4294967296) ++ big 4 (v % 4294967296)
+big-halves v =
+    let h : ℕ = v / 4294967296 in
+    let l : ℕ = v % 4294967296 in
+    let one : v / 256 ≡ h * 65536 * 256 + l / 256 = omega arith in
+    let two : v / 256 / 256 ≡ h * 256 * 256 + l / 256 / 256 = omega arith in
+    let three : v / 256 / 256 / 256 ≡ h * 256 + l / 256 / 256 / 256 = omega arith in
+    let four : v / 256 / 256 / 256 / 256 ≡ h = omega arith in
+    let low : v % 256 ≡ l % 256 = omega arith in
+    let next : v / 256 % 256 ≡ l / 256 % 256 = ap (λ (n : ℕ). n % 256) one ∙ byte-of (h * 65536) (l / 256) in
+    let third : v / 256 / 256 % 256 ≡ l / 256 / 256 % 256 = ap (λ (n : ℕ). n % 256) two ∙ byte-of (h * 256) (l / 256 / 256) in
+    let fourth : v / 256 / 256 / 256 % 256 ≡ l / 256 / 256 / 256 % 256 = ap (λ (n : ℕ). n % 256) three ∙ byte-of h (l / 256 / 256 / 256) in
+    ap (λ (n : ℕ). big 4 n ++ (v / 256 / 256 / 256 % 256 ∷ v / 256 / 256 % 256 ∷ v / 256 % 256 ∷ v % 256 ∷ [])) four
+    ∙ (λ i. big 4 h ++ (fourth i ∷ third i ∷ next i ∷ low i ∷ []))
+
+-- the bytes of zero
+pub big-zero : (w : ℕ) → big w 0 ≡ replicate w 0
+big-zero zero = refl
+big-zero (suc w) = ap (λ (l : List ℕ). l ++ (0 ∷ [])) (big-zero w) ∙ zeros w
+  where
+    zeros : (k : ℕ) → _≡_ {A = List ℕ} (replicate k 0 ++ (0 ∷ [])) (0 ∷ replicate k 0)
+    zeros zero = refl
+    zeros (suc k) = ap (λ (l : List ℕ). 0 ∷ l) (zeros k)
 
 -- the bytes of a number that was read are the bytes that it was read from
 pub big-num : (w o : ℕ) (d : List ℕ) → Bytes d → o + w ≤ length d → big w (num w o d) ≡ take w (drop o d)

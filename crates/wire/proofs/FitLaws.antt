@@ -10,7 +10,8 @@ use lib.Pow.{pow-pos}
 use native.Mathlib.Nat.{mod-lt}
 use native.Mathlib.Omega.{arith}
 use Rattle.wire.specs.Bytes.{num, big, Bytes}
-use Rattle.wire.specs.Table.{Part, keep, only, skip, Slot, kept, padding, one, parts, bits, split, keeps, wide, count, number, read, fill, FitParts, Fit}
+use Rattle.wire.specs.Table.{Part, keep, only, skip, Slot, kept, padding, one, parts, bits, split, keeps, wide, count, number, read}
+use Rattle.wire.specs.Table.{fill, FitParts, Fit}
 use Rattle.wire.proofs.ByteLaws.{num-lt}
 use Rattle.wire.proofs.TableLaws.{length-split}
 

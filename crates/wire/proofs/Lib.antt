@@ -2,4 +2,6 @@
 pub mod ByteLaws
 pub mod TableLaws
 pub mod FirstLaws
+pub mod RuleLaws
 pub mod FitLaws
+pub mod PartLaws

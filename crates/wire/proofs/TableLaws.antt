@@ -16,7 +16,9 @@ use native.Mathlib.Nat.{add-zero, mod-one, mod-eq-of-lt, zero-mul, suc-mul, pow-
 use native.Mathlib.Omega.{arith}
 use borrow.Author.Tests.{eqb-true, eq-eqb, ltb-true}
 use Rattle.wire.specs.Bytes.{num, big, Bytes}
-use Rattle.wire.specs.Table.{Part, keep, only, skip, Slot, kept, padding, one, parts, bits, above, split, join, clean, fixed, bare, keeps, wide, count, values, number, tidy, right, blank, width, read, fill, clear, allFixed, allBlank, soundParts, sound, FitParts, Fit}
+use Rattle.wire.specs.Table.{Part, keep, only, skip, Slot, kept, padding, one, parts, bits, above, split, join, clean, fixed, bare}
+use Rattle.wire.specs.Table.{keeps, wide, count, values, number, tidy, right, blank, width, read, fill, clear, allFixed, allBlank}
+use Rattle.wire.specs.Table.{soundParts, sound, FitParts, Fit}
 use Rattle.wire.proofs.ByteLaws.{length-big, num-append, num-big, big-num, num-lt}
 
 -- both halves of a conjunction that is true
@@ -130,7 +132,10 @@ pow-pos-256 zero = omega arith
 pow-pos-256 (suc w) = rw (pow-suc 256 w) (omega (arith, pow-pos-256 w))
 
 -- what soundness says of the first slot, where that has parts
-parts-fill : (w : ℕ) (ps : List Part) (t : List Slot) → sound (parts w ps ∷ t) ≡ true → (2 ^ bits ps ≡ 256 ^ w) × (soundParts ps ≡ true) × (sound t ≡ true)
+parts-fill :
+    (w : ℕ) (ps : List Part) (t : List Slot)
+    → sound (parts w ps ∷ t) ≡ true
+    → (2 ^ bits ps ≡ 256 ^ w) × (soundParts ps ≡ true) × (sound t ≡ true)
 parts-fill w ps t s =
     let a = both-true (eqb (2 ^ bits ps) (256 ^ w) && soundParts ps) (sound t) s in
     let b = both-true (eqb (2 ^ bits ps) (256 ^ w)) (soundParts ps) (a .0) in
@@ -160,7 +165,11 @@ number-lt (parts w ps) t xs e f =
 alone : (k j : ℕ) → 0 * k + j ≡ j
 alone k j = omega (arith, zero-mul k)
 
-values-number : (s : Slot) (t : List Slot) (xs : List ℕ) → sound (s ∷ t) ≡ true → Fit (s ∷ t) xs → values s (number s (take (count s) xs)) ≡ take (count s) xs
+values-number :
+    (s : Slot) (t : List Slot) (xs : List ℕ)
+    → sound (s ∷ t) ≡ true
+    → Fit (s ∷ t) xs
+    → values s (number s (take (count s) xs)) ≡ take (count s) xs
 values-number (kept w) t (x ∷ xs) e f = refl
 values-number (padding w) t xs e f = refl
 values-number (one w u) t xs e f = refl
@@ -272,12 +281,20 @@ fill-read (s ∷ t) o d e =
     ∙ ap₂ (λ (m : ℕ) (l : List ℕ). big (wide s) m ++ l) (number-values s v (h .0)) (fill-read t (o + wide s) d (h .1))
 
 -- the bytes that a table takes, its first slot's apart
-first-apart : (s : Slot) (t : List Slot) (o : ℕ) (d : List ℕ) → take (width (s ∷ t)) (drop o d) ≡ take (wide s) (drop o d) ++ take (width t) (drop (o + wide s) d)
+first-apart :
+    (s : Slot) (t : List Slot) (o : ℕ) (d : List ℕ)
+    → take (width (s ∷ t)) (drop o d) ≡ take (wide s) (drop o d) ++ take (width t) (drop (o + wide s) d)
 first-apart s t o d =
     take-add (wide s) (width t) (drop o d)
     ∙ ap (λ (l : List ℕ). take (wide s) (drop o d) ++ take (width t) l) (drop-drop (wide s) o d)
 
-pub clear-blank : (t : List Slot) (o : ℕ) (d : List ℕ) → sound t ≡ true → Bytes d → o + width t ≤ length d → allBlank o t d ≡ true → clear o t d ≡ take (width t) (drop o d)
+pub clear-blank :
+    (t : List Slot) (o : ℕ) (d : List ℕ)
+    → sound t ≡ true
+    → Bytes d
+    → o + width t ≤ length d
+    → allBlank o t d ≡ true
+    → clear o t d ≡ take (width t) (drop o d)
 clear-blank [] o d e b h z = refl
 clear-blank (s ∷ t) o d e b h z =
     let v : ℕ = num (wide s) o d in
@@ -292,7 +309,13 @@ big-same : (w m n : ℕ) → m < 256 ^ w → n < 256 ^ w → big w m ≡ big w n
 big-same w m n hm hn e =
     sym (mod-eq-of-lt hm) ∙ sym (num-big w m []) ∙ ap (λ (l : List ℕ). num w 0 (l ++ [])) e ∙ num-big w n [] ∙ mod-eq-of-lt hn
 
-pub blank-clear : (t : List Slot) (o : ℕ) (d : List ℕ) → sound t ≡ true → Bytes d → o + width t ≤ length d → clear o t d ≡ take (width t) (drop o d) → allBlank o t d ≡ true
+pub blank-clear :
+    (t : List Slot) (o : ℕ) (d : List ℕ)
+    → sound t ≡ true
+    → Bytes d
+    → o + width t ≤ length d
+    → clear o t d ≡ take (width t) (drop o d)
+    → allBlank o t d ≡ true
 blank-clear [] o d e b h z = refl
 blank-clear (s ∷ t) o d e b h z =
     let w : ℕ = wide s in

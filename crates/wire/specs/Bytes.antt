@@ -16,6 +16,11 @@ abbrev pub big : ℕ → ℕ → List ℕ
 big zero v = []
 big (suc w) v = big w (v / 256) ++ (v % 256 ∷ [])
 
+-- numbers of w bytes each, side by side
+abbrev pub row : ℕ → List ℕ → List ℕ
+row w [] = []
+row w (v ∷ vs) = big w v ++ row w vs
+
 -- buffer with bytes written over it from place at on; what would pass its end is left out
 abbrev pub splice : ℕ → List ℕ → List ℕ → List ℕ
 splice at bytes buffer = sets buffer at bytes

@@ -2,3 +2,4 @@
 pub mod Bytes
 pub mod Table
 pub mod First
+pub mod Rules

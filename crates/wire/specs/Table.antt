@@ -128,6 +128,11 @@ abbrev pub width : List Slot → ℕ
 width [] = 0
 width (s ∷ t) = wide s + width t
 
+-- how many values a layout keeps
+abbrev pub counts : List Slot → ℕ
+counts [] = 0
+counts (s ∷ t) = count s + counts t
+
 -- the values kept of the bytes d, whose layout t starts at byte o
 abbrev pub read : ℕ → List Slot → List ℕ → List ℕ
 read o [] d = []

@@ -5,8 +5,8 @@ use mathlib.Core.Path.{sym, _∙_}
 use denote.Ref.{now}
 use native.Mathlib.Omega.{arith}
 use borrow.Author.Needs.{needs}
-use Rattle.pdu.proofs.Carried.{taken-size, refused-size}
-use Rattle.pdu.proofs.TakenExactly.{refusal-read}
+use Rattle.pdu.proofs.ReadLaws.{taken-size, refused-size}
+use Rattle.pdu.proofs.Answers.{refusal-read}
 use Rattle.host.proofs.altuvrin_datagram.Statement.{statement}
 use Rattle.host.proofs.altuvrin_datagram.Tie as tie
 

@@ -4,7 +4,7 @@
 use Prim.Native.Nat.{ℕ, _≤_}
 use mathlib.Core.List.{List, [], _∷_, _++_}
 use mathlib.Core.Path.{_≡_, sym, ap, ap₂, _∙_}
-use mathlib.Core.Bool.{Bool, true}
+use mathlib.Core.Bool.{true}
 use lib.Dec.{eqb}
 use lib.ListN.{length, drop, length-take, length-drop}
 use denote.Ref.{now}
@@ -13,10 +13,10 @@ use borrow.Author.Tests.{eq-eqb, ne-eqb, lt-ltb, le-ltb}
 use Rattle.wire.proofs.ByteLaws.{splice-start}
 use Rattle.wire.specs.First.{Refusal, first}
 use Rattle.wire.specs.Bytes.{splice}
-use Rattle.pdu.proofs.ReadingLaws.{part-rest}
+use Rattle.wire.proofs.PartLaws.{part-rest}
 use Rattle.station.specs.Hearing.{heard}
 use Rattle.trunk.specs.Head.{headSize}
-use Rattle.trunk.specs.Record.{recordOf, replyOf, numberIn, carriedIn}
+use Rattle.trunk.specs.Record.{replyOf, numberIn, carriedIn}
 use Rattle.trunk.specs.Far.{arrivalRules, isNext, countAfter, delivered, arrived, arrivalSays, replyAfter, outputAfter}
 use Rattle.trunk.specs.declared.Far.{Far}
 use Rattle.trunk.specs.declared.Head.{Head}

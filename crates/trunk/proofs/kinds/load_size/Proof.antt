@@ -1,6 +1,6 @@
 -- `load_size` meets its contract: the arm that binds a number of words is given which load it is.
 -- Assumes nothing.
-use mathlib.Core.Path.{sym, ap, _∙_}
+use mathlib.Core.Path.{ap}
 use native.Mathlib.Omega.{arith}
 use Rattle.trunk.specs.Kinds.{loadSize}
 use borrow.Author.Needs.{needs}

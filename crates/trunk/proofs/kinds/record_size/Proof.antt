@@ -2,8 +2,7 @@
 -- Assumes nothing.
 use mathlib.Core.Path.{_≡_, ap, _∙_}
 use native.Mathlib.Omega.{arith}
-use Rattle.trunk.specs.Kinds.{load, loadSize, recordSize}
-use Rattle.trunk.specs.Head.{headSize}
+use Rattle.trunk.specs.Kinds.{load, loadSize}
 use Rattle.trunk.proofs.KindLaws.{record-small}
 use borrow.Author.Needs.{needs}
 use Rattle.trunk.proofs.kinds.record_size.Statement.{statement}

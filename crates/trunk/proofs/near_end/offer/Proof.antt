@@ -18,7 +18,8 @@ use Rattle.trunk.specs.Near.{rowSize, offerRulesOf, offerRules, offerRec
 use Rattle.trunk.specs.declared.Near.{Near}
 use Rattle.trunk.specs.declared.Head.{Head}
 use Rattle.trunk.specs.declared.Offer.the-variants.{Refused}
-use Rattle.trunk.proofs.WriteLaws.{part-splice, record-short}
+use Rattle.wire.proofs.PartLaws.{part-splice}
+use Rattle.trunk.proofs.WriteLaws.{record-short}
 use Rattle.trunk.proofs.RecordLaws.{carried-kind}
 use Rattle.trunk.proofs.EndLaws.{OfferFits, offer-fits}
 use borrow.Author.Needs.{needs}

@@ -1,24 +1,22 @@
--- `put_pdu` meets its contract: what was read of a datagram that the trunk carries is written as its written form (`writes-read-transmitter`,
--- `writes-read-signal`); one that is refused has no kind.
+-- `put_pdu` meets its contract: what was read of a datagram that the trunk carries is written as its written form (`read-written`); one that is
+-- refused has no kind.
 -- Assumes nothing.
 use Prim.Native.Nat.{ℕ, _+_, _-_, _≤_}
 use mathlib.Core.List.{List}
-use mathlib.Core.Path.{_≡_, sym, ap, _∙_}
+use mathlib.Core.Path.{_≡_, sym, ap, ap₂, _∙_}
 use lib.ListN.{length, take, drop}
 use denote.Ref.{now}
 use native.Mathlib.Nat.{add-sub-cancel-left}
 use native.Mathlib.Omega.{arith}
-use Rattle.wire.specs.First.{first}
 use Rattle.pdu.specs.Numbers.{bodyStart}
-use Rattle.pdu.specs.Records.{signalSize}
-use Rattle.pdu.specs.Reading.{reading, bodyOf}
-use Rattle.pdu.specs.Writing.{left, signalWriting, signalBytes}
-use Rattle.pdu.specs.declared.Transmitter.{Transmitter}
+use Rattle.pdu.specs.Tables.{signalSize}
+use Rattle.pdu.specs.Reading.{reading}
+use Rattle.pdu.specs.Writing.{outputAfter}
 use Rattle.pdu.specs.declared.Signal.{Signal}
 use Rattle.pdu.specs.declared.Reading.{Reading}
-use Rattle.pdu.proofs.Carried.{body-there}
+use Rattle.pdu.proofs.ReadLaws.{read-written, body-there}
 use Rattle.trunk.specs.Kinds.{kindOf, longestPdu}
-use Rattle.trunk.proofs.WriteLaws.{carried-size, writes-read-transmitter, writes-read-signal}
+use Rattle.trunk.proofs.WriteLaws.{carried-size}
 use borrow.Author.Needs.{needs}
 use Rattle.trunk.proofs.near_end.put_pdu.Statement.{statement}
 use Rattle.trunk.proofs.near_end.put_pdu.Tie as tie
@@ -82,9 +80,9 @@ returns-2 c =
     let at = c .before .before in
     let found = at .before .before .before in
     let s = found .before .before .before .before in
-    let fields : Transmitter = found .answer .given .0 .0 in
+    let t = found .answer .given .0 .0 in
     let read = sym (s .pre .1) ∙ found .answer .given .1 in
-    at .write-transmitter .ensures .1 .1 ∙ writes-read-transmitter (D s) fields (now (s .args .out)) read (omega arith)
+    at .write-transmitter .ensures .1 .1 ∙ read-written (D s) (Reading.Transmitter t) (now (s .args .out)) tt read (omega arith)
 
 same-length-2 : tie.Need-same-length-2
 same-length-2 c = search needs
@@ -96,13 +94,14 @@ returns-3 c =
     let s = t₃ found in
     let n : ℕ = size found in
     let out : List ℕ = now (s .args .out) in
-    let there = body-there (D s) (signal found) n (signal-read found) in
-    let body : take (bodyStart + n - bodyStart) (drop bodyStart (D s)) ≡ bodyOf (D s) =
-    ap (λ (m : ℕ). take m (drop bodyStart (D s))) (add-sub-cancel-left bodyStart n) ∙ sym (there .1) in
+    let body : take (bodyStart + n - bodyStart) (drop bodyStart (D s)) ≡ take n (drop bodyStart (D s)) =
+    ap (λ (m : ℕ). take m (drop bodyStart (D s))) (add-sub-cancel-left bodyStart n) in
+    let long : length (take n (drop bodyStart (D s))) ≡ n =
+    ap length (sym (body-there (D s) (signal found) n (signal-read found) .1)) ∙ body-there (D s) (signal found) n (signal-read found) .2 in
     let small : signalSize n ≤ longestPdu = carried-size (D s) (signal found) n (signal-read found) (s .pre .2) in
     at .write-signal .ensures .1 .1
-    ∙ ap (λ (b : List ℕ). left (first (signalWriting (signal found) (length b) (length out))) (signalBytes (signal found) b) out) body
-    ∙ writes-read-signal (D s) (signal found) n out (signal-read found) (omega arith)
+    ∙ ap₂ (λ (m : ℕ) (b : List ℕ). outputAfter (Reading.Signal (signal found) m) b out) (ap length body ∙ long) body
+    ∙ read-written (D s) (Reading.Signal (signal found) n) out tt (signal-read found) (omega arith)
 
 pub put-pdu-spec : {M : Type 1} → statement M
 put-pdu-spec =

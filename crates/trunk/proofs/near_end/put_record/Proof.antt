@@ -10,7 +10,8 @@ use native.Mathlib.Omega.{arith}
 use Rattle.wire.specs.Bytes.{splice}
 use Rattle.pdu.specs.Writing.{writtenForm}
 use Rattle.trunk.specs.Head.{headSize}
-use Rattle.trunk.proofs.WriteLaws.{part-splice, carried-short, record-splice}
+use Rattle.wire.proofs.PartLaws.{part-splice}
+use Rattle.trunk.proofs.WriteLaws.{carried-short, record-splice}
 use borrow.Author.Needs.{needs}
 use Rattle.trunk.proofs.near_end.put_record.Statement.{statement}
 use Rattle.trunk.proofs.near_end.put_record.Tie as tie

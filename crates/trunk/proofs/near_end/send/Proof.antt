@@ -1,6 +1,6 @@
 -- `send` meets its contract: refused, it leaves the buffer as it was; else the row's record stands at its start (`row-copied`).
 -- Assumes nothing.
-use Prim.Native.Nat.{ℕ, _+_, _-_, _≤_}
+use Prim.Native.Nat.{ℕ, _+_, _-_}
 use mathlib.Core.List.{List, [], _∷_}
 use mathlib.Core.Path.{_≡_, sym, ap, ap₂, _∙_}
 use lib.ListN.{length, take, drop, length-take, length-drop}
@@ -11,7 +11,7 @@ use Rattle.wire.specs.First.{first}
 use Rattle.wire.specs.Bytes.{splice}
 use Rattle.trunk.specs.Head.{headAt}
 use Rattle.trunk.specs.Kinds.{recordSize}
-use Rattle.trunk.specs.Near.{sendRules, sent, sentOut, rowKind, rowStart}
+use Rattle.trunk.specs.Near.{sendRules, sent, sentOut, rowKind}
 use Rattle.trunk.specs.declared.Near.{Near}
 use Rattle.trunk.specs.declared.Sent.the-variants.{Refused, Size}
 use Rattle.trunk.proofs.EndLaws.{SendFits, send-fits, row-copied}

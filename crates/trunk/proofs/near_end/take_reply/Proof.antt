@@ -6,7 +6,6 @@ use Prim.Native.Nat.{ℕ}
 use denote.Ref.{now}
 use borrow.Author.Tests.{eq-eqb, ne-eqb}
 use Rattle.wire.specs.First.{first}
-use Rattle.trunk.specs.Record.{numberIn}
 use Rattle.trunk.specs.Near.{replyRules, replied, acknowledgedAfter}
 use Rattle.trunk.specs.declared.Near.{Near}
 use Rattle.trunk.specs.declared.Head.{Head}

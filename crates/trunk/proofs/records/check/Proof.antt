@@ -9,7 +9,7 @@ use native.Mathlib.Omega.{arith}
 use borrow.Author.Tests.{eq-eqb, ne-eqb}
 use Rattle.wire.specs.First.{first}
 use lib.Dec.{eqb}
-use mathlib.Core.Bool.{Bool, true}
+use mathlib.Core.Bool.{true}
 use Rattle.trunk.specs.Record.{checkRules, checked}
 use Rattle.trunk.specs.declared.Head.{Head}
 use Rattle.trunk.specs.declared.Checked.the-variants.{Refused, Reply, Pdu}

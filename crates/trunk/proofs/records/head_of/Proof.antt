@@ -1,7 +1,6 @@
 -- `head_of` meets its contract: kind and number are the values of the head's table.
 -- Assumes nothing.
 use mathlib.Core.Path.{ap₂}
-use Prim.Native.Nat.{ℕ}
 use Rattle.trunk.specs.Record.{headFor}
 use borrow.Author.Needs.{needs}
 use Rattle.trunk.proofs.records.head_of.Statement.{statement}

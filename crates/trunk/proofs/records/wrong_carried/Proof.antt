@@ -2,32 +2,36 @@
 -- kind (`written-kind`).
 -- Assumes nothing.
 use Prim.Native.Nat.{ℕ, _<_}
-use mathlib.Core.Bool.{Bool, true, false, cond, not, _&&_}
+use mathlib.Core.Bool.{Bool, true, false, not, _&&_}
 use mathlib.Core.Path.{_≡_, refl, sym, ap, ap₂, _∙_}
 use mathlib.Core.List.{List}
 use lib.Dec.{eqb}
 use denote.Ref.{now}
 use native.Mathlib.Omega.{arith}
 use borrow.Author.Tests.{ne-eqb}
-use Rattle.pdu.proofs.ReadingLaws.{part-rest}
-use Rattle.pdu.specs.Writing.{inWrittenForm, readingWritten}
+use Rattle.wire.proofs.PartLaws.{part-rest}
+use Rattle.pdu.specs.Writing.{inWrittenForm, carried}
+use Rattle.pdu.proofs.Answers.{reading-taken}
+use Rattle.pdu.proofs.ReadLaws.{written-taken}
 use Rattle.pdu.specs.Reading.{reading}
-use Rattle.pdu.specs.declared.Reading.{Reading}
-use Rattle.pdu.specs.declared.Reading.the-variants.{Refused}
-use Rattle.trunk.specs.Kinds.{noKind, kindOf}
+use Rattle.trunk.specs.Kinds.{noKind, kindOf, kindCarried}
 use Rattle.trunk.specs.Head.{headSize}
 use Rattle.trunk.specs.Record.{kindIn, carriedIn, wrongCarried}
 use borrow.Author.Needs.{needs}
 use Rattle.trunk.proofs.records.wrong_carried.Statement.{statement}
 use Rattle.trunk.proofs.records.wrong_carried.Tie as tie
 
--- a byte is the kind of what is read only in written form exactly if that is in written form and has this kind
+-- a byte is the kind of what bytes hold exactly if they are in written form and what is read of them has this kind
 written-kind :
-    (written : Bool) (a : Reading) (kind : ℕ)
+    (d : List ℕ) (kind : ℕ)
     → kind < noKind
-    → eqb (kindOf (cond written a (Refused 22))) kind ≡ (written && eqb (kindOf a) kind)
-written-kind true a kind h = refl
-written-kind false a kind h = ne-eqb noKind kind (λ e. omega arith)
+    → eqb (kindCarried (carried d)) kind ≡ (inWrittenForm d && eqb (kindOf (reading d)) kind)
+unfolding carried
+written-kind d kind h = by (inWrittenForm d) refl
+  where
+    by : (b : Bool) → inWrittenForm d ≡ b → eqb (kindCarried (carried d)) kind ≡ (inWrittenForm d && eqb (kindOf (reading d)) kind)
+    by true w = rw (w, reading-taken d (written-taken d w))
+    by false w = rw w (ne-eqb noKind kind (λ e. omega arith))
 
 -- the record
 abbrev R : tie.After-kind-at → List ℕ
@@ -55,11 +59,11 @@ part-pdu-start c = search needs
 part-pdu-end : tie.Need-part-pdu-end
 part-pdu-end c = search needs
 
-read-written-requires : tie.Need-read-written-requires
-read-written-requires c κs = search needs
+read-carried-requires : tie.Need-read-carried-requires
+read-carried-requires c κs = search needs
 
-kind-of-requires : tie.Need-kind-of-requires
-kind-of-requires c κs = search needs
+kind-of-carried-requires : tie.Need-kind-of-carried-requires
+kind-of-carried-requires c κs = search needs
 
 no-requires : tie.Need-no-requires
 no-requires c κs = search needs
@@ -68,13 +72,13 @@ returns-2 : tie.Need-returns-2
 unfolding wrongCarried
 returns-2 c =
     let kind = c .before .before .before .before in
-    let read = c .before .before .read-written .ensures ∙ ap readingWritten (part-rest headSize (R kind)) in
-    let carried = c .before .kind-of .ensures ∙ ap kindOf read in
+    let read = c .before .before .read-carried .ensures ∙ ap carried (part-rest headSize (R kind)) in
+    let held = c .before .kind-of-carried .ensures ∙ ap kindCarried read in
     rw (sym (kind .before .before .is-reply .ensures) ∙ kind .before .if1 .left)
     (c .no .ensures
     ∙ ap not
-    (ap₂ eqb carried (kind .kind-at .ensures)
-    ∙ written-kind (inWrittenForm (carriedIn (R kind))) (reading (carriedIn (R kind))) (kindIn (R kind)) (omega (arith, kind .kind-at .ensures))))
+    (ap₂ eqb held (kind .kind-at .ensures)
+    ∙ written-kind (carriedIn (R kind)) (kindIn (R kind)) (omega (arith, kind .kind-at .ensures))))
 
 pub wrong-carried-spec : {M : Type 1} → statement M
 wrong-carried-spec =
@@ -87,7 +91,7 @@ wrong-carried-spec =
     sub-pdu
     part-pdu-start
     part-pdu-end
-    read-written-requires
-    kind-of-requires
+    read-carried-requires
+    kind-of-carried-requires
     no-requires
     returns-2)

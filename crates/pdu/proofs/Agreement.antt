@@ -1,0 +1,241 @@
+-- Each test of reading and of writing says the same as document 01's plain rule in its place; so the lists of refusals and the plain rules decide
+-- alike (the verdicts). The laws of rules in order do the rest.
+-- Assumes nothing.
+use Prim.Native.Nat.{ℕ, _+_, _-_, _*_, _/_, _%_, _^_, _≤_}
+use mathlib.Core.Path.{_≡_, refl, ap, subst}
+use mathlib.Core.Logic.{_↔_, _≢_, _⊎_, inl, inr, Iff·trans}
+use mathlib.Core.Bool.{Bool, true, false, not}
+use mathlib.Core.List.{List}
+use lib.ListN.{length}
+use lib.Dec.{eqb, ltb}
+use borrow.Author.Tests.{eqb-true, eqb-false, eq-eqb, ne-eqb}
+use native.Mathlib.Nat.{div-one}
+use native.Mathlib.Omega.{arith}
+use Rattle.wire.specs.Bytes.{num}
+use Rattle.wire.specs.Rules.{Rule, Verdict}
+use Rattle.wire.proofs.RuleLaws.{equal, at-most, below, not-below, negated, both, one-of, neither, if-so, unless-not, either-way, all-five}
+use Rattle.wire.proofs.RuleLaws.{Agree, done, _then_, agree-append, verdict}
+use Rattle.pdu.specs.Numbers
+use Rattle.pdu.specs.Tables.{filled, signalSize}
+use Rattle.pdu.specs.Words.{wordsIn, wholeWords}
+use Rattle.pdu.specs.Rules.{wrongVersion, isPrimary, wrongSync, wrongSecurity, accessRules, slotRules, networkRules, bodyRules, innerRules}
+use Rattle.pdu.specs.Reading.{transmitterOf, signalOf, bodySize, content, wrongType, wrongLength, wrongFixed, wrongBits, startRules}
+use Rattle.pdu.specs.Reading.{transmitterLayout, signalLayout, readingRules}
+use Rattle.pdu.specs.Writing.{recordRules, writingRules}
+use Rattle.pdu.specs.Plain.{FixedRule, SyncRule, FilledTo, SecurityRule, epochOf, plainStart, plainTransmitterLayout}
+use Rattle.pdu.specs.Plain.{plainTransmitter, plainSignalLayout, plainNetwork, plainInner, plainSignal, plainTransmitterRecord}
+use Rattle.pdu.specs.Plain.{plainSignalRecord, plainTransmitterWriting, plainSignalWriting}
+use Rattle.pdu.specs.declared.Sync.{Sync}
+use Rattle.pdu.specs.declared.Network.{Network}
+use Rattle.pdu.specs.declared.Transmitter.{Transmitter}
+use Rattle.pdu.specs.declared.Signal.{Signal}
+use Rattle.pdu.specs.declared.Reading.the-variants.{Transmitter as aTransmitter, Signal as aSignal}
+
+-- ---- each test
+
+pub version-says : (v : ℕ) → (wrongVersion v ≡ false) ↔ ((v ≡ 5) ⊎ (v ≡ 6))
+unfolding wrongVersion
+version-says v = negated _ (one-of _ _ (equal v _) (equal v _))
+
+-- 3, for what the type is then said to be
+type-says : (d : List ℕ) (type : Type 0)
+    → ((num 1 2 d ≡ 25) ⊎ (num 1 2 d ≡ 26)) ↔ type
+    → (wrongType d ≡ false) ↔ (type × (num 1 3 d ≡ 4))
+unfolding wrongType
+type-says d type h = negated _ (both _ _ (Iff·trans (one-of _ _ (equal _ _) (equal _ _)) h) (equal _ _))
+
+pub length-says : (least : ℕ) (d : List ℕ) → (wrongLength least d ≡ false) ↔ ((num 2 8 d ≡ length d) × (least ≤ num 2 8 d))
+unfolding wrongLength
+length-says least d = neither _ _ (negated _ (equal _ _)) (not-below _ _)
+
+fixed-says : (d : List ℕ) → (wrongFixed d ≡ false) ↔ FixedRule d
+unfolding wrongFixed
+fixed-says d = negated _ (all-five _ _ _ _ _ (equal _ _) (equal _ _) (equal _ _) (equal _ _) (equal _ _))
+
+-- primary mode: the two ends of its range are all that is in it
+mode-says : (p : ℕ) → (isPrimary p ≡ true) ↔ ((p ≡ 1) ⊎ (p ≡ 2))
+mode-says p =
+    Iff·trans (both _ _ (at-most _ _) (at-most _ _))
+    (λ h. ends (eqb p 1) refl (h .0) (h .1), elim [ inl e ↦ omega arith | inr e ↦ omega arith ])
+  where
+    ends : (b : Bool) → eqb p 1 ≡ b → 1 ≤ p → p ≤ 2 → (p ≡ 1) ⊎ (p ≡ 2)
+    ends true e low high = inl (eqb-true _ _ e)
+    ends false e low high =
+        let other : p ≢ 1 = eqb-false _ _ e in
+        inr (omega arith)
+
+pub sync-says : (s : Sync) → (wrongSync s ≡ false) ↔ SyncRule (s .level) (s .primary) (s .secondary) (s .state) (s .id)
+unfolding wrongSync
+sync-says s =
+    negated _
+    (all-five _ _ _ _ _
+    (at-most _ _)
+    (mode-says (s .primary))
+    (at-most _ _)
+    (one-of _ _ (equal _ _) (equal _ _))
+    (unless-not _ _ (below _ _) (equal _ _)))
+
+bits-say : (bits : ℕ) → (wrongBits bits ≡ false) ↔ ((bits % 8 ≡ 0) × (160 ≤ bits))
+unfolding wrongBits
+bits-say bits = neither _ _ (negated _ (equal _ _)) (not-below _ _)
+
+filled-says : (n size : ℕ) → (not (eqb size (filled n)) ≡ false) ↔ FilledTo n size
+filled-says n size = negated _ (Iff·trans (equal _ _) (λ (e : size ≡ filled n). omega arith, λ h. omega arith))
+
+security-says : (k : ℕ) → (wrongSecurity k ≡ false) ↔ SecurityRule k
+security-says k = negated _ (one-of _ _ (at-most _ _) (equal _ _))
+
+words-say : (n : ℕ) → (not (wholeWords n) ≡ false) ↔ ((words : ℕ) × (n ≡ 6 + 10 * words))
+words-say n = negated _ (Iff·trans (equal _ _) (λ e. (wordsIn n, e), λ h. whole (h .0) (h .1)))
+  where
+    whole : (words : ℕ) → n ≡ 6 + 10 * words → n ≡ Numbers.bodyHeader + Numbers.wordBytes * wordsIn n
+    whole words e = omega arith
+
+-- at most twelve words, where the body is a header and whole words
+few-say : (n words : ℕ) → n ≡ 6 + 10 * words → (ltb Numbers.mostWords (wordsIn n) ≡ false) ↔ (n ≤ 126)
+few-say n words e = Iff·trans (not-below _ _) (λ (h : wordsIn n ≤ Numbers.mostWords). omega arith, λ h. omega arith)
+
+-- room for a Signal: each filled size is its own
+room-says : (n room : ℕ) → (ltb room (signalSize n) ≡ false) ↔ ((size : ℕ) → FilledTo (52 + n) size → size ≤ room)
+room-says n room =
+    Iff·trans (not-below _ _)
+    (λ (h : signalSize n ≤ room) size f. omega arith, λ h. h (signalSize n) (omega arith, omega arith, omega arith))
+
+-- ---- the lists
+
+-- the plain rules of a network header and a body of n bytes
+abbrev pub plainOf : Network → ℕ → List Rule
+plainOf k n = plainNetwork (k .npg) (k .net) (k .tsec) (k .msec) (k .«message_type») (k .slot) (k .epoch) n
+
+-- 13, 14 and 15
+pub inner-agrees : (s : Signal) (n : ℕ) → Agree (innerRules (aSignal s n)) (plainOf (s .network) n)
+unfolding innerRules networkRules accessRules slotRules bodyRules
+inner-agrees s n =
+    not-below _ _
+    then λ npg. not-below _ _
+    then λ net. security-says _
+    then λ tsec. security-says _
+    then λ msec. not-below _ _
+    then λ type. not-below _ _
+    then λ slot. not-below _ _
+    then λ epoch. if-so _ _ (equal _ _) (not-below _ _)
+    then λ last. if-so _ _ (equal _ _) (words-say _)
+    then λ words. either-way _ _ _ (equal _ _) (λ zero-type. few-say _ (words zero-type .0) (words zero-type .1)) (not-below _ _)
+    then λ few. done
+
+-- what byte 2 says
+pub content-transmitter : (d : List ℕ) → num 1 2 d ≡ 25 → content d ≡ aTransmitter (transmitterOf d)
+unfolding content
+content-transmitter d e = rw (eq-eqb (num 1 2 d) _ e)
+
+pub content-signal : (d : List ℕ) → num 1 2 d ≢ 25 → content d ≡ aSignal (signalOf d) (bodySize d)
+unfolding content
+content-signal d e = rw (ne-eqb (num 1 2 d) _ e)
+
+-- 1, 2, 3
+start-agrees : (d : List ℕ) (type : Type 0)
+    → ((num 1 2 d ≡ 25) ⊎ (num 1 2 d ≡ 26)) ↔ type
+    → Agree (startRules d) (plainStart type d)
+unfolding startRules
+start-agrees d type h = not-below _ _ then λ long. version-says _ then λ version. type-says d type h then λ known. done
+
+-- 4 to 8
+transmitter-layout-agrees : (d : List ℕ) → Agree (transmitterLayout d) (plainTransmitterLayout d)
+unfolding transmitterLayout
+transmitter-layout-agrees d =
+    length-says _ _
+    then λ length. fixed-says _
+    then λ fixed. negated _ (equal _ _)
+    then λ modulation. negated _ (equal _ _)
+    then λ pattern. negated _ (equal _ _)
+    then λ size. done
+
+-- 4, 10, 11, 12, 8
+signal-layout-agrees : (d : List ℕ) → Agree (signalLayout d) (plainSignalLayout d)
+unfolding signalLayout
+signal-layout-agrees d =
+    length-says _ _
+    then λ length. negated _ (equal _ _)
+    then λ class. negated _ (equal _ _)
+    then λ tdl. bits-say _
+    then λ bits. filled-says _ _
+    then λ size. done
+
+-- the rules of a Transmitter, where byte 2 is 25
+transmitter-agrees : (d : List ℕ) → num 1 2 d ≡ 25 → Agree (readingRules d) (plainTransmitter d)
+unfolding readingRules innerRules transmitterOf
+transmitter-agrees d e =
+    rw (content-transmitter d e)
+    (agree-append (start-agrees d (num 1 2 d ≡ 25) (λ either. e, inl))
+    (λ start. agree-append (transmitter-layout-agrees d) (λ layout. sync-says _ then λ sync. done)))
+
+-- 13, 14 and 15 of a datagram; the slot that the table gives has no bits below it
+network-agrees : (d : List ℕ) → Agree (innerRules (aSignal (signalOf d) (bodySize d))) (plainInner d)
+unfolding signalOf
+network-agrees d =
+    subst (λ (slot : ℕ). Agree (innerRules (aSignal (signalOf d) (bodySize d))) (with-slot slot))
+    (ap (λ (v : ℕ). v % 2 ^ 17) (div-one (num 4 40 d)))
+    (inner-agrees (signalOf d) (bodySize d))
+  where
+    with-slot : ℕ → List Rule
+    with-slot slot = plainNetwork (num 2 32 d) (num 1 34 d) (num 1 35 d) (num 1 36 d) (num 1 37 d) slot (epochOf d) (num 2 28 d / 8 - 20)
+
+-- the rules of a Signal, where it is not
+signal-agrees : (d : List ℕ) → num 1 2 d ≢ 25 → Agree (readingRules d) (plainSignal d)
+unfolding readingRules
+signal-agrees d e =
+    rw (content-signal d e)
+    (agree-append (start-agrees d (num 1 2 d ≡ 26) (elim [ inl t ↦ absurd (e t) | inr s ↦ s ], inr))
+    (λ start. agree-append (signal-layout-agrees d) (λ layout. network-agrees d)))
+
+-- ---- the verdicts
+
+-- reading: the plain rules of a Transmitter where byte 2 is 25, those of a Signal elsewhere
+pub transmitter-verdict : (d : List ℕ) → num 1 2 d ≡ 25 → Verdict (readingRules d) (plainTransmitter d)
+transmitter-verdict d e = verdict (transmitter-agrees d e)
+
+pub signal-verdict : (d : List ℕ) → num 1 2 d ≢ 25 → Verdict (readingRules d) (plainSignal d)
+signal-verdict d e = verdict (signal-agrees d e)
+
+-- and their parts
+pub start-verdict : (d : List ℕ) → Verdict (startRules d) (plainStart ((num 1 2 d ≡ 25) ⊎ (num 1 2 d ≡ 26)) d)
+start-verdict d = verdict (start-agrees d _ (λ known. known, λ known. known))
+
+pub transmitter-layout : (d : List ℕ) → Verdict (transmitterLayout d) (plainTransmitterLayout d)
+transmitter-layout d = verdict (transmitter-layout-agrees d)
+
+pub signal-layout : (d : List ℕ) → Verdict (signalLayout d) (plainSignalLayout d)
+signal-layout d = verdict (signal-layout-agrees d)
+
+-- 13, 14 and 15, of a datagram and of a record
+pub inner-verdict : (d : List ℕ) → Verdict (innerRules (aSignal (signalOf d) (bodySize d))) (plainInner d)
+inner-verdict d = verdict (network-agrees d)
+
+pub inner-record : (s : Signal) (n : ℕ) → Verdict (innerRules (aSignal s n)) (plainOf (s .network) n)
+inner-record s n = verdict (inner-agrees s n)
+
+-- the rules of a record
+transmitter-record-agrees : (t : Transmitter) → Agree (recordRules (aTransmitter t)) (plainTransmitterRecord t)
+unfolding recordRules innerRules
+transmitter-record-agrees t = version-says _ then λ version. sync-says _ then λ sync. done
+
+signal-record-agrees : (s : Signal) (n : ℕ) → Agree (recordRules (aSignal s n)) (plainSignalRecord s n)
+unfolding recordRules
+signal-record-agrees s n = version-says _ then λ version. not-below _ _ then λ kept. inner-agrees s n
+
+pub transmitter-record : (t : Transmitter) → Verdict (recordRules (aTransmitter t)) (plainTransmitterRecord t)
+transmitter-record t = verdict (transmitter-record-agrees t)
+
+pub signal-record : (s : Signal) (n : ℕ) → Verdict (recordRules (aSignal s n)) (plainSignalRecord s n)
+signal-record s n = verdict (signal-record-agrees s n)
+
+-- writing
+pub transmitter-writing : (t : Transmitter) (room : ℕ) → Verdict (writingRules (aTransmitter t) room) (plainTransmitterWriting t room)
+unfolding writingRules
+transmitter-writing t room =
+    verdict (agree-append (transmitter-record-agrees t) (λ m. not-below _ _ then λ space. done))
+
+pub signal-writing : (s : Signal) (n room : ℕ) → Verdict (writingRules (aSignal s n) room) (plainSignalWriting s n room)
+unfolding writingRules
+signal-writing s n room =
+    verdict (agree-append (signal-record-agrees s n) (λ m. room-says n room then λ space. done))

@@ -1,0 +1,201 @@
+-- What reading answers, by the refusal number and by what the datagram holds (`reads-as`, `refuses-as`); and `taken-exactly-when`: a datagram is
+-- taken exactly where document 01's plain rules hold, its refusal is the number of the first that does not, and what is taken is what the table
+-- gives. By the verdicts on the two lists of rules.
+-- Assumes nothing.
+use Prim.Native.Nat.{ℕ}
+use mathlib.Core.Path.{_≡_, refl, sym, ap, subst, _∙_}
+use mathlib.Core.Logic.{_↔_, _≢_, Iff·trans}
+use mathlib.Core.Bool.{Bool, true, false}
+use mathlib.Core.List.{List}
+use lib.Dec.{eqb}
+use borrow.Author.Tests.{eqb-true, eqb-false, eq-eqb, ne-eqb}
+use native.Mathlib.Omega.{arith}
+use Rattle.wire.specs.Bytes.{num}
+use Rattle.wire.specs.Rules.{Rule, Met, Verdict}
+use Rattle.pdu.specs.Numbers
+use Rattle.pdu.specs.Forms.{sizeOf}
+use Rattle.pdu.specs.Reading.{transmitterOf, signalOf, bodySize, saysTransmitter, content, refusal, reading, numberOf}
+use Rattle.pdu.specs.Writing.{writingRules, writingRefusal, written}
+use Rattle.pdu.specs.Plain.{plainTransmitter, plainSignal, plainTransmitterWriting, plainSignalWriting, TakenExactly, WrittenExactly}
+use Rattle.pdu.specs.declared.Transmitter.{Transmitter}
+use Rattle.pdu.specs.declared.Signal.{Signal}
+use Rattle.pdu.specs.declared.Reading.{Reading}
+use Rattle.pdu.specs.declared.Reading.the-variants.{Refused, Transmitter as aTransmitter, Signal as aSignal}
+use Rattle.pdu.specs.declared.Written.the-variants.{Refused as NotWritten, Size}
+use Rattle.pdu.proofs.Agreement.{content-transmitter, content-signal, transmitter-verdict, signal-verdict, transmitter-writing, signal-writing}
+
+-- an answer that is no refusal
+abbrev pub Holds : Reading → Type 0
+Holds (Refused n) = ⊥
+Holds (aTransmitter t) = Unit {0}
+Holds (aSignal s n) = Unit {0}
+
+-- ---- what reading answers
+
+pub reading-taken : (d : List ℕ) → refusal d ≡ 0 → reading d ≡ content d
+unfolding reading
+reading-taken d e = rw (eq-eqb (refusal d) 0 e)
+
+pub reading-refused : (d : List ℕ) → refusal d ≢ 0 → reading d ≡ Refused (refusal d)
+unfolding reading
+reading-refused d e = rw (ne-eqb (refusal d) 0 e)
+
+-- what a datagram holds is no refusal
+pub content-holds : (d : List ℕ) → Holds (content d)
+unfolding content
+content-holds d = by (saysTransmitter d) refl
+  where
+    by : (b : Bool) → saysTransmitter d ≡ b → Holds (content d)
+    by true t = subst Holds (sym (content-transmitter d (eqb-true _ _ t))) tt
+    by false t = subst Holds (sym (content-signal d (eqb-false _ _ t))) tt
+
+-- an answer that is no refusal: the datagram is taken, and holds that
+pub reads-as : (d : List ℕ) (r : Reading) → Holds r → reading d ≡ r → (refusal d ≡ 0) × (content d ≡ r)
+reads-as d r h e = by (eqb (refusal d) 0) refl
+  where
+    by : (b : Bool) → eqb (refusal d) 0 ≡ b → (refusal d ≡ 0) × (content d ≡ r)
+    by true t =
+        let none = eqb-true _ _ t in
+        (none, sym (reading-taken d none) ∙ e)
+    by false t = absurd (subst Holds (sym e ∙ reading-refused d (eqb-false _ _ t)) h)
+
+-- a refusal: by the first rule that is broken
+pub refuses-as : (d : List ℕ) (n : ℕ) → (reading d ≡ Refused n) ↔ ((refusal d ≡ n) × (n ≢ 0))
+refuses-as d n = (to, from)
+  where
+    to : reading d ≡ Refused n → (refusal d ≡ n) × (n ≢ 0)
+    to e = by (eqb (refusal d) 0) refl
+      where
+        by : (b : Bool) → eqb (refusal d) 0 ≡ b → (refusal d ≡ n) × (n ≢ 0)
+        by true t = absurd (subst Holds (sym (reading-taken d (eqb-true _ _ t)) ∙ e) (content-holds d))
+        by false t =
+            let some = eqb-false _ _ t in
+            let same : refusal d ≡ n = ap numberOf (sym (reading-refused d some) ∙ e) in
+            (same, λ z. some (same ∙ z))
+
+    from : (refusal d ≡ n) × (n ≢ 0) → reading d ≡ Refused n
+    from h = reading-refused d (λ z. h .1 (sym (h .0) ∙ z)) ∙ ap Refused (h .0)
+
+-- the refusal number is the answer's
+pub refusal-read : (d : List ℕ) → numberOf (reading d) ≡ refusal d
+refusal-read d = by (eqb (refusal d) 0) refl
+  where
+    no-number : (r : Reading) → Holds r → numberOf r ≡ 0
+    no-number (Refused n) h = absurd h
+    no-number (aTransmitter t) h = refl
+    no-number (aSignal s n) h = refl
+
+    by : (b : Bool) → eqb (refusal d) 0 ≡ b → numberOf (reading d) ≡ refusal d
+    by true t =
+        let none = eqb-true _ _ t in
+        ap numberOf (reading-taken d none) ∙ no-number (content d) (content-holds d) ∙ sym none
+    by false t = ap numberOf (reading-refused d (eqb-false _ _ t))
+
+-- ---- which of the two
+
+-- what a datagram that holds a Transmitter, or a Signal, says in byte 2, and what it holds
+pub as-transmitter : (d : List ℕ) (t : Transmitter) → content d ≡ aTransmitter t → (num 1 2 d ≡ 25) × (t ≡ transmitterOf d)
+as-transmitter d t e = by (saysTransmitter d) refl
+  where
+    by : (b : Bool) → saysTransmitter d ≡ b → (num 1 2 d ≡ 25) × (t ≡ transmitterOf d)
+    by true y =
+        let same : aTransmitter t ≡ aTransmitter (transmitterOf d) = sym e ∙ content-transmitter d (eqb-true _ _ y) in
+        (eqb-true _ _ y, cc)
+    by false y =
+        let other : aTransmitter t ≡ aSignal (signalOf d) (bodySize d) = sym e ∙ content-signal d (eqb-false _ _ y) in
+        let z : _≡_ {A = ℕ} 0 1 = cc in
+        absurd (omega arith)
+
+pub as-signal : (d : List ℕ) (s : Signal) (n : ℕ)
+    → content d ≡ aSignal s n
+    → (num 1 2 d ≢ 25) × (s ≡ signalOf d) × (n ≡ bodySize d)
+as-signal d s n e = by (saysTransmitter d) refl
+  where
+    by : (b : Bool) → saysTransmitter d ≡ b → (num 1 2 d ≢ 25) × (s ≡ signalOf d) × (n ≡ bodySize d)
+    by true y =
+        let other : aSignal s n ≡ aTransmitter (transmitterOf d) = sym e ∙ content-transmitter d (eqb-true _ _ y) in
+        let z : _≡_ {A = ℕ} 0 1 = cc in
+        absurd (omega arith)
+    by false y =
+        let same : aSignal s n ≡ aSignal (signalOf d) (bodySize d) = sym e ∙ content-signal d (eqb-false _ _ y) in
+        (eqb-false _ _ y, cc, cc)
+
+-- a datagram that meets the plain rules is taken
+pub transmitter-met : (d : List ℕ) → Met (plainTransmitter d) → (refusal d ≡ 0) × (content d ≡ aTransmitter (transmitterOf d))
+unfolding refusal
+transmitter-met d m =
+    let (long, (version, ((type, family), rest))) = m in
+    (transmitter-verdict d type .none .1 m, content-transmitter d type)
+
+pub signal-met : (d : List ℕ) → Met (plainSignal d) → (refusal d ≡ 0) × (content d ≡ aSignal (signalOf d) (bodySize d))
+unfolding refusal
+signal-met d m =
+    let (long, (version, ((type, family), rest))) = m in
+    let other : num 1 2 d ≢ 25 = λ e. omega arith in
+    (signal-verdict d other .none .1 m, content-signal d other)
+
+-- ---- the theorems
+
+-- for every datagram, without a premise
+pub taken-exactly-when : (d : List ℕ) → TakenExactly d
+unfolding refusal
+taken-exactly-when d =
+    let transmitter : (t : Transmitter) → reading d ≡ aTransmitter t → (refusal d ≡ 0) × (content d ≡ aTransmitter t) =
+    λ t e. reads-as d (aTransmitter t) tt e in
+    let signal : (s : Signal) (n : ℕ) → reading d ≡ aSignal s n → (refusal d ≡ 0) × (content d ≡ aSignal s n) =
+    λ s n e. reads-as d (aSignal s n) tt e in
+    record {
+      transmitter-taken = (
+        (λ h. let r = transmitter (h .0) (h .1) in transmitter-verdict d (as-transmitter d (h .0) (r .1) .0) .none .0 (r .0)),
+        (λ m. let r = transmitter-met d m in (transmitterOf d, reading-taken d (r .0) ∙ r .1)),
+      );
+      signal-taken = (
+        (λ h. let r = signal (h .0) (h .1) (h .2) in signal-verdict d (as-signal d (h .0) (h .1) (r .1) .0) .none .0 (r .0)),
+        (λ m. let r = signal-met d m in (signalOf d, bodySize d, reading-taken d (r .0) ∙ r .1)),
+      );
+      transmitter-refused = λ e n. Iff·trans (refuses-as d n) (transmitter-verdict d e .some n);
+      signal-refused = λ e n. Iff·trans (refuses-as d n) (signal-verdict d e .some n);
+      transmitter-content = λ t e. as-transmitter d t (transmitter t e .1) .1;
+      signal-content = λ s n e. let h = as-signal d s n (signal s n e .1) in (h .1, h .2);
+    }
+
+-- what writing answers, by a verdict on its rules
+by-verdict : (r : Reading) (room : ℕ) (plain : List Rule) → Verdict (writingRules r room) plain → WrittenExactly r plain room
+by-verdict r room plain v =
+    record {
+      written-size = Iff·trans (size (eqb (writingRefusal r room) 0) refl) (v .none);
+      refused = λ n. Iff·trans (number (eqb (writingRefusal r room) 0) refl n) (v .some n);
+    }
+  where
+    size : (b : Bool) → eqb (writingRefusal r room) 0 ≡ b → (written r room ≡ Size (sizeOf r)) ↔ (writingRefusal r room ≡ 0)
+    size true t = (λ e. eqb-true _ _ t, λ e. rw t)
+    size false t = (
+      λ e.
+          let other : NotWritten (writingRefusal r room) ≡ Size (sizeOf r) = rw t at e in
+          let z : _≡_ {A = ℕ} 0 1 = cc in
+          absurd (omega arith),
+      λ e. absurd (eqb-false _ _ t e),
+    )
+
+    number : (b : Bool) → eqb (writingRefusal r room) 0 ≡ b → (n : ℕ) → (written r room ≡ NotWritten n) ↔ ((writingRefusal r room ≡ n) × (n ≢ 0))
+    number true t n = (
+      λ e.
+          let other : Size (sizeOf r) ≡ NotWritten n = rw t at e in
+          let z : _≡_ {A = ℕ} 0 1 = cc in
+          absurd (omega arith),
+      λ h. absurd (h .1 (sym (h .0) ∙ eqb-true _ _ t)),
+    )
+    number false t n = (
+      λ e.
+          let same : NotWritten (writingRefusal r room) ≡ NotWritten n = rw t at e in
+          let number : writingRefusal r room ≡ n = cc in
+          (number, λ z. eqb-false _ _ t (number ∙ z)),
+      λ h. rw t (ap NotWritten (h .0)),
+    )
+
+-- for every record, body size and room, without a premise
+pub transmitter-written-exactly : (t : Transmitter) (room : ℕ) → WrittenExactly (aTransmitter t) (plainTransmitterWriting t room) room
+transmitter-written-exactly t room = by-verdict (aTransmitter t) room _ (transmitter-writing t room)
+
+pub signal-written-exactly : (s : Signal) (n room : ℕ) → WrittenExactly (aSignal s n) (plainSignalWriting s n room) room
+signal-written-exactly s n room = by-verdict (aSignal s n) room _ (signal-writing s n room)

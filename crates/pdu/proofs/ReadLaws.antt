@@ -1,0 +1,201 @@
+-- What a layer above may use of a taken datagram: the writer takes what the reader took and gives its written form; a Signal's body lies in the
+-- datagram; a type 0 body is whole words, twelve at most. Each follows from what a taken datagram has (`taken`).
+-- Assumes nothing.
+use Prim.Native.Nat.{ℕ, _+_, _*_, _≤_}
+use mathlib.Core.Path.{_≡_, refl, sym, ap, ap₂, subst, _∙_}
+use mathlib.Core.Logic.{_≢_}
+use mathlib.Core.Bool.{Bool, true, false, not, _&&_, true≢false}
+use mathlib.Core.List.{List, [], _∷_, _++_}
+use lib.ListN.{length, take, drop, length-drop}
+use lib.Seq.{length-take-le}
+use lib.Dec.{leb}
+use borrow.Author.Tests.{eqb-true, eq-eqb, ne-eqb, not-true}
+use native.Mathlib.Omega.{arith}
+use Rattle.wire.specs.Bytes.{num, splice}
+use Rattle.wire.proofs.ByteLaws.{splice-start}
+use Rattle.wire.specs.First.{Refusal, _given-when_, first, numbered}
+use Rattle.wire.proofs.FirstLaws.{first-here, first-next, none-of}
+use Rattle.wire.specs.Table.{allBlank}
+use Rattle.wire.proofs.TableLaws.{both-true}
+use Rattle.wire.proofs.RuleLaws.{at-most, both}
+use Rattle.pdu.specs.Numbers
+use Rattle.pdu.specs.Words.{wordsIn}
+use Rattle.pdu.specs.Rules.{accessRules, slotRules, networkRules, bodyRules, innerRules}
+use Rattle.pdu.specs.Forms.{tableOf, bytesOf, sizeOf, bodyIn}
+use Rattle.pdu.specs.Tables.{signalSize}
+use Rattle.pdu.specs.Reading.{bodySize, content, bodyOf, wrongLength, startRules, transmitterLayout, signalLayout, layoutRules}
+use Rattle.pdu.specs.Reading.{formRules, readingRules, refusal, reading}
+use Rattle.pdu.specs.Writing.{outputAfter, writtenForm, writtenAs, inWrittenForm}
+use Rattle.pdu.specs.declared.Signal.{Signal}
+use Rattle.pdu.specs.declared.Reading.{Reading}
+use Rattle.pdu.specs.declared.Reading.the-variants.{Refused, Transmitter as aTransmitter, Signal as aSignal}
+use Rattle.pdu.proofs.Agreement.{length-says, content-transmitter, content-signal, start-verdict, transmitter-layout, signal-layout}
+use Rattle.pdu.proofs.Agreement.{signal-record}
+use Rattle.pdu.proofs.Answers.{Holds, reads-as, reading-taken, reading-refused}
+use Rattle.pdu.proofs.Taken.{Taken, taken}
+use Rattle.pdu.proofs.RoundTrip.{length-form, written-form-back, written-back}
+
+-- what was read, as reading answered it
+pub read-taken : (d : List ℕ) (r : Reading) → Holds r → reading d ≡ r → Taken d r (bodyIn r d)
+read-taken d r h e =
+    let (none, holds) = reads-as d r h e in
+    subst (λ (q : Reading). Taken d q (bodyIn q d)) holds (taken d none)
+
+-- written with room, it leaves the datagram's written form
+pub read-written : (d : List ℕ) (r : Reading) (out : List ℕ)
+    → Holds r
+    → reading d ≡ r
+    → sizeOf r ≤ length out
+    → outputAfter r (bodyIn r d) out ≡ splice 0 (writtenForm d) out
+unfolding writtenForm
+read-written d r out h e room =
+    let (none, holds) = reads-as d r h e in
+    let fits : length d ≤ length out = subst (λ (n : ℕ). n ≤ length out) (sym (read-taken d r h e .size)) room in
+    let long : length (bytesOf (content d) (bodyOf d)) ≡ length d = length-form (content d) (bodyOf d) ∙ sym (taken d none .size) in
+    subst (λ (q : Reading). outputAfter q (bodyIn q d) out ≡ splice 0 (writtenForm d) out) holds
+    (written-back d out none fits .output
+    ∙ ap₂ (λ (l : List ℕ) (n : ℕ). l ++ drop n out) (sym (written-form-back d none)) (sym long)
+    ∙ sym (splice-start (writtenForm d) out (rw long fits)))
+
+-- and that has the size answered
+pub written-size : (d : List ℕ) (r : Reading) → Holds r → reading d ≡ r → length (writtenForm d) ≡ sizeOf r
+unfolding writtenForm
+written-size d r h e =
+    length-form (content d) (bodyOf d) ∙ ap sizeOf (reads-as d r h e .1)
+
+-- a Signal's body lies in the datagram, and has the size answered
+pub body-there : (d : List ℕ) (s : Signal) (n : ℕ)
+    → reading d ≡ aSignal s n
+    → (Numbers.bodyStart + n ≤ length d) × (bodyOf d ≡ take n (drop Numbers.bodyStart d)) × (length (bodyOf d) ≡ n)
+body-there d s n e =
+    let (none, holds) = reads-as d (aSignal s n) tt e in
+    let size = read-taken d (aSignal s n) tt e .size in
+    let inside : Numbers.bodyStart + n ≤ length d = omega (arith, size) in
+    let body : bodyOf d ≡ take n (drop Numbers.bodyStart d) = ap (λ (r : Reading). bodyIn r d) holds in (
+      inside,
+      body,
+      ap length body ∙ length-take-le n (drop Numbers.bodyStart d) (rw (length-drop Numbers.bodyStart d) (omega arith)),
+    )
+
+-- a type 0 body is a header and whole words, twelve at most
+pub taken-words : (d : List ℕ) (s : Signal) (n : ℕ)
+    → reading d ≡ aSignal s n
+    → s .network .«message_type» ≡ 0
+    → (n ≡ Numbers.bodyHeader + Numbers.wordBytes * wordsIn n) × (wordsIn n ≤ Numbers.mostWords)
+taken-words d s n e zero-type =
+    let (v, (encoding, (npg, (net, (tsec, (msec, (type, (slot, (epoch, (last, (words, ((few, most), end)))))))))))) =
+    signal-record s n .none .0 (read-taken d (aSignal s n) tt e .rules) in
+    let whole : n ≡ 6 + 10 * (words zero-type .0) = words zero-type .1 in
+    let short : n ≤ 126 = few zero-type in
+    (omega arith, omega arith)
+
+-- the size answered for a taken datagram is its own length, and for a refused one it is 0
+pub taken-size : (d : List ℕ) → refusal d ≡ 0 → sizeOf (reading d) ≡ length d
+taken-size d e = ap sizeOf (reading-taken d e) ∙ sym (taken d e .size)
+
+pub refused-size : (d : List ℕ) → refusal d ≢ 0 → sizeOf (reading d) ≡ 0
+refused-size d h = ap sizeOf (reading-refused d h)
+
+-- a datagram in written form is taken
+pub written-taken : (d : List ℕ) → inWrittenForm d ≡ true → refusal d ≡ 0
+unfolding inWrittenForm
+written-taken d e = eqb-true (refusal d) 0 (both-true _ _ e .0)
+
+-- ---- what the parts of the rules say, for those who test them one after the other
+
+-- where 1, 2 and 3 are not given there is a header's start, and the rules of the form decide
+pub start-long : (d : List ℕ) → first (startRules d) ≡ 0 → Numbers.shortest ≤ length d
+start-long d e = let (long, rest) = start-verdict d .none .0 e in long
+
+pub start-next : (d : List ℕ) → first (startRules d) ≡ 0 → refusal d ≡ first (formRules (content d) d)
+unfolding refusal readingRules startRules
+start-next d e = first-next (startRules d) (formRules (content d) d) refl e
+
+pub start-here : (d : List ℕ) → first (startRules d) ≢ 0 → refusal d ≡ first (startRules d)
+unfolding refusal readingRules
+start-here d e = first-here (startRules d) (formRules (content d) d) e
+
+-- refusal 4 not given: the slice has the least length
+pub right-length : (least : ℕ) (d : List ℕ) → wrongLength least d ≡ false → least ≤ length d
+right-length least d e = let (same, enough) = length-says least d .0 e in omega arith
+
+-- a Transmitter whose layout is right has its full size
+pub transmitter-laid : (d : List ℕ) → first (transmitterLayout d) ≡ 0 → length d ≡ Numbers.transmitterSize
+transmitter-laid d e =
+    let (field, (fixed, (modulation, (pattern, (size, end))))) = transmitter-layout d .none .0 e in
+    size
+
+-- a Signal whose layout is right counts its network header as data, and has its filled size
+pub record SignalLaid (d : List ℕ) : Type 0 where
+  pub header : 8 * Numbers.networkBytes ≤ num 2 28 d
+  pub size : length d ≡ signalSize (bodySize d)
+
+pub signal-laid : (d : List ℕ) → first (signalLayout d) ≡ 0 → SignalLaid d
+signal-laid d e =
+    let (field, (class, (tdl, ((whole, enough), (size, end))))) = signal-layout d .none .0 e in
+    record { header = enough; size = omega arith }
+
+-- no rule of a layout has the number 0
+pub layout-numbered : (r : Reading) (d : List ℕ) → numbered (layoutRules r d) ≡ true
+unfolding transmitterLayout signalLayout
+layout-numbered (Refused n) d = refl
+layout-numbered (aTransmitter t) d = refl
+layout-numbered (aSignal s n) d = refl
+
+-- the layout's rules answer first, and leave the answer to the inner ones where none is broken
+pub form-here : (r : Reading) (d : List ℕ) → first (layoutRules r d) ≢ 0 → first (formRules r d) ≡ first (layoutRules r d)
+form-here r d e = first-here (layoutRules r d) (innerRules r) e
+
+pub form-next : (r : Reading) (d : List ℕ) → first (layoutRules r d) ≡ 0 → first (formRules r d) ≡ first (innerRules r)
+form-next r d e = first-next (layoutRules r d) (innerRules r) (layout-numbered r d) e
+
+-- a broken rule of the form: not in written form; none: as its padding says
+pub not-written : (r : Reading) (d : List ℕ) → first (formRules r d) ≢ 0 → writtenAs r d ≡ false
+not-written r d e = rw (ne-eqb (first (formRules r d)) 0 e)
+
+pub written-blank : (r : Reading) (d : List ℕ) → first (formRules r d) ≡ 0 → writtenAs r d ≡ allBlank 0 (tableOf r) d
+written-blank r d e = rw (eq-eqb (first (formRules r d)) 0 e)
+
+-- of a taken datagram every part is unbroken
+taken-parts : (d : List ℕ) → refusal d ≡ 0 → (first (startRules d) ≡ 0) × (first (layoutRules (content d) d) ≡ 0)
+unfolding refusal readingRules startRules
+taken-parts d e =
+    let (start, form) = none-of (startRules d) (formRules (content d) d) refl e in
+    (start, none-of (layoutRules (content d) d) _ (layout-numbered (content d) d) form .0)
+
+pub taken-long : (d : List ℕ) → refusal d ≡ 0 → Numbers.shortest ≤ length d
+taken-long d e = start-long d (taken-parts d e .0)
+
+pub taken-transmitter : (d : List ℕ) → refusal d ≡ 0 → num 1 2 d ≡ 25 → length d ≡ Numbers.transmitterSize
+taken-transmitter d e type =
+    transmitter-laid d (subst (λ (r : Reading). first (layoutRules r d) ≡ 0) (content-transmitter d type) (taken-parts d e .1))
+
+pub taken-signal : (d : List ℕ) → refusal d ≡ 0 → num 1 2 d ≢ 25 → first (signalLayout d) ≡ 0
+taken-signal d e type =
+    subst (λ (r : Reading). first (layoutRules r d) ≡ 0) (content-signal d type) (taken-parts d e .1)
+
+-- ---- the numbers that reading gives
+
+-- whether every number of a list of rules is outside 16 to 49
+abbrev apart : List Refusal → Bool
+apart [] = true
+apart ((n given-when broken) ∷ rest) = not (leb 16 n && leb n 49) && apart rest
+
+first-apart : (rules : List Refusal) (k : ℕ) → apart rules ≡ true → 16 ≤ k → k ≤ 49 → first rules ≡ k → ⊥
+first-apart [] k e low high q = omega arith
+first-apart ((n given-when true) ∷ rest) k e low high q =
+    let inside : (leb 16 n && leb n 49) ≡ true = both (leb 16 n) (leb n 49) (at-most 16 n) (at-most n 49) .1 (omega arith, omega arith) in
+    let outside : (leb 16 n && leb n 49) ≡ false = not-true _ (both-true (not (leb 16 n && leb n 49)) (apart rest) e .0) in
+    true≢false (sym inside ∙ outside)
+first-apart ((n given-when false) ∷ rest) k e low high q =
+    first-apart rest k (both-true (not (leb 16 n && leb n 49)) (apart rest) e .1) low high q
+
+-- the writer's 16, the trunk's numbers and the station's are never the reader's
+pub refusal-apart : (d : List ℕ) (k : ℕ) → 16 ≤ k → k ≤ 49 → refusal d ≡ k → ⊥
+unfolding refusal readingRules startRules transmitterLayout signalLayout innerRules networkRules accessRules slotRules bodyRules
+refusal-apart d k low high e = first-apart (startRules d ++ formRules (content d) d) k (by-form (content d)) low high e
+  where
+    by-form : (r : Reading) → apart (startRules d ++ formRules r d) ≡ true
+    by-form (Refused n) = refl
+    by-form (aTransmitter t) = refl
+    by-form (aSignal s n) = refl

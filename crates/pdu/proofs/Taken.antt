@@ -1,0 +1,229 @@
+-- Being taken, by the table: a datagram is taken and holds r exactly where it has the size of r's table, its fixed values, r's values, and r meets
+-- the rules of a record (`taken`, `takes`). Each plain rule is found among those facts, and the reverse.
+-- Assumes nothing.
+use Prim.Native.Nat.{ℕ, _+_, _-_, _/_, _%_, _^_, _≤_, _<_}
+use mathlib.Core.Path.{_≡_, refl, sym, ap, ap₂, subst, _∙_}
+use mathlib.Core.Logic.{_↔_, _≢_, _⊎_, Iff·rfl}
+use mathlib.Core.Bool.{Bool, true, false}
+use mathlib.Core.List.{List, [], _∷_}
+use lib.ListN.{length, take, drop}
+use lib.Dec.{eqb}
+use borrow.Author.Tests.{eqb-true, eqb-false, lt-ltb, le-ltb}
+use native.Mathlib.Nat.{mod-lt}
+use native.Mathlib.Omega.{arith}
+use Rattle.wire.specs.Bytes.{num, Bytes}
+use Rattle.wire.specs.First.{first}
+use Rattle.wire.specs.Rules.{Met}
+use Rattle.wire.specs.Table.{Slot, kept, padding, one, parts, fixed, width, read, allFixed, sound}
+use Rattle.wire.proofs.RuleLaws.{_also_, equal, both}
+use Rattle.wire.proofs.ByteLaws.{num-lt}
+use Rattle.wire.proofs.PartLaws.{num-part}
+use Rattle.pdu.specs.Numbers
+use Rattle.pdu.specs.Tables.{signalSize, dataBits, transmitterTable, signalTable}
+use Rattle.pdu.specs.Records.{transmitterFrom, signalFrom, signalValues}
+use Rattle.pdu.specs.Forms.{tableOf, valuesOf, sizeOf, bodyIn}
+use Rattle.pdu.specs.Reading.{transmitterOf, signalOf, bodySize, saysTransmitter, content, bodyOf, refusal}
+use Rattle.pdu.specs.Rules.{innerRules}
+use Rattle.pdu.specs.Writing.{recordRules}
+use Rattle.pdu.specs.Plain.{plainTransmitter, plainSignal, plainTransmitterRecord}
+use Rattle.pdu.specs.declared.Transmitter.{Transmitter}
+use Rattle.pdu.specs.declared.Signal.{Signal}
+use Rattle.pdu.specs.declared.Reading.{Reading}
+use Rattle.pdu.specs.declared.Reading.the-variants.{Refused, Transmitter as aTransmitter, Signal as aSignal}
+use Rattle.pdu.proofs.Agreement.{version-says, content-transmitter, content-signal, inner-verdict, inner-record, transmitter-verdict}
+use Rattle.pdu.proofs.Agreement.{signal-verdict, transmitter-record, signal-record}
+use Rattle.pdu.proofs.Answers.{transmitter-met, signal-met}
+
+-- the fixed places of a table, one by one
+abbrev Fixed : ℕ → List Slot → List ℕ → Type 0
+Fixed o [] d = Unit {0}
+Fixed o (kept w ∷ t) d = Fixed (o + w) t d
+Fixed o (padding w ∷ t) d = Fixed (o + w) t d
+Fixed o (one w u ∷ t) d = (num w o d ≡ u) × Fixed (o + w) t d
+Fixed o (parts w ps ∷ t) d = (fixed ps (num w o d) ≡ true) × Fixed (o + w) t d
+
+all-fixed : (t : List Slot) (o : ℕ) (d : List ℕ) → (allFixed o t d ≡ true) ↔ Fixed o t d
+all-fixed [] o d = (λ e. tt, λ f. refl)
+all-fixed (kept w ∷ t) o d = all-fixed t (o + w) d
+all-fixed (padding w ∷ t) o d = all-fixed t (o + w) d
+all-fixed (one w u ∷ t) o d = both _ _ (equal _ _) (all-fixed t (o + w) d)
+all-fixed (parts w ps ∷ t) o d = both _ _ Iff·rfl (all-fixed t (o + w) d)
+
+-- what a taken datagram has: the size of the form's table, its fixed values, the record's values, and a record that meets its rules
+pub record Taken (d : List ℕ) (r : Reading) (body : List ℕ) : Type 0 where
+  pub size : length d ≡ sizeOf r
+  pub fixed : allFixed 0 (tableOf r) d ≡ true
+  pub values : read 0 (tableOf r) d ≡ valuesOf r body
+  pub rules : first (recordRules r) ≡ 0
+
+-- ---- a Transmitter
+
+transmitter-holds : (d : List ℕ) → Met (plainTransmitter d) → Taken d (aTransmitter (transmitterOf d)) []
+unfolding transmitterOf
+transmitter-holds d (long, (v, ((type, family), ((same, least), (five, (modulation, (pattern, (size, (sync, end))))))))) =
+    let (category, source, major, detail, system) = five in
+    record {
+      size = size;
+      fixed =
+          all-fixed transmitterTable 0 d .1
+          (type
+          also family
+          also (same ∙ size)
+          also category
+          also source
+          also pattern
+          also major
+          also detail
+          also system
+          also modulation
+          also tt);
+      values = refl;
+      rules = transmitter-record (transmitterOf d) .none .1 (v also sync also tt);
+    }
+
+transmitter-rules : (d : List ℕ) (t : Transmitter) (body : List ℕ) → Taken d (aTransmitter t) body → Met (plainTransmitter d) × (transmitterOf d ≡ t)
+unfolding transmitterOf
+transmitter-rules d t body h =
+    let (type, (family, (same, (category, (source, (pattern, (major, (detail, (system, (modulation, end)))))))))) =
+    all-fixed transmitterTable 0 d .0 (h .fixed) in
+    let record-same : transmitterOf d ≡ t = ap transmitterFrom (h .values) in
+    let (v, (sync, end)) =
+    subst (λ (u : Transmitter). Met (plainTransmitterRecord u)) (sym record-same) (transmitter-record t .none .0 (h .rules)) in
+    let long : 12 ≤ length d = omega arith in (
+      (long
+          also v
+          also (type, family)
+          also (same ∙ sym (h .size), omega arith)
+          also (category, source, major, detail, system)
+          also modulation
+          also pattern
+          also h .size
+          also sync
+          also tt),
+      record-same,
+    )
+
+-- ---- a Signal
+
+-- what the rules of a Signal keep within bounds, so that it fits its places
+pub record SignalBounds (s : Signal) (n : ℕ) : Type 0 where
+  pub encoding : s .encoding < Numbers.encodingKept
+  pub slot : s .network .slot ≤ Numbers.lastSlot
+  pub body : n ≤ Numbers.mostBytes
+
+pub signal-bounds : (s : Signal) (n : ℕ) → first (recordRules (aSignal s n)) ≡ 0 → SignalBounds s n
+signal-bounds s n e =
+    let (v, (encoding, (npg, (net, (tsec, (msec, (type, (slot, (epoch, (last, (words, ((few, most), end)))))))))))) =
+    signal-record s n .none .0 e in
+    record { encoding = omega arith; slot = slot; body = by (eqb (s .network .«message_type») 0) refl few most }
+  where
+    by : (b : Bool)
+        → eqb (s .network .«message_type») 0 ≡ b
+        → (s .network .«message_type» ≡ 0 → n ≤ 126)
+        → (s .network .«message_type» ≢ 0 → n ≤ 256)
+        → n ≤ 256
+    by true t few most = omega (arith, few (eqb-true _ _ t))
+    by false t few most = most (eqb-false _ _ t)
+
+-- the number of the body is the number from byte 52 on
+body-number : (n : ℕ) (d : List ℕ) → num n 0 (take n (drop Numbers.bodyStart d)) ≡ num n Numbers.bodyStart d
+body-number n d = num-part n 0 n Numbers.bodyStart d (omega arith)
+
+signal-holds : (d : List ℕ) → Met (plainSignal d) → Taken d (aSignal (signalOf d) (bodySize d)) (take (bodySize d) (drop Numbers.bodyStart d))
+unfolding signalOf recordRules
+signal-holds d (long, (v, ((type, family), ((same, least), (class, (tdl, ((whole, enough), (size, rest)))))))) =
+    let n : ℕ = bodySize d in
+    let bits : num 2 28 d ≡ dataBits n = omega arith in
+    let part : num 2 20 d / 2 ^ 14 % 2 ^ 2 ≡ 1 = omega arith in
+    let full : length d ≡ signalSize n = omega arith in
+    let below : num 2 20 d / 1 % 2 ^ 14 < 16384 = mod-lt (num 2 20 d / 1) (omega arith) in
+    let small : num 2 20 d / 1 % 2 ^ 14 ≤ 16383 = omega arith in
+    record {
+      size = full;
+      fixed =
+          all-fixed (signalTable n) 0 d .1
+          (type
+          also family
+          also (same ∙ full)
+          also both _ _ (equal _ _) Iff·rfl .1 (part, refl)
+          also tdl
+          also bits
+          also refl
+          also tt);
+      values = ap (signalValues (signalOf d)) (sym (body-number n d));
+      rules = rw (version-says _ .1 v, le-ltb _ _ small) (inner-verdict d .none .1 rest);
+    }
+
+signal-rules : (d : List ℕ) (s : Signal) (n : ℕ) (body : List ℕ)
+    → Bytes d
+    → Taken d (aSignal s n) body
+    → Met (plainSignal d) × (signalOf d ≡ s) × (bodySize d ≡ n)
+unfolding signalOf
+signal-rules d s n body b h =
+    let (type, (family, (same, (class, (tdl, (bits, end)))))) = all-fixed (signalTable n) 0 d .0 (h .fixed) in
+    let record-same : signalOf d ≡ s = ap signalFrom (h .values) in
+    let size-same : bodySize d ≡ n = ap (λ (m : ℕ). m / 8 - Numbers.networkBytes) bits ∙ omega arith in
+    let (v, (encoding, inner)) = signal-record s n .none .0 (h .rules) in
+    let version = subst (λ (u : Signal). (u .header .version ≡ 5) ⊎ (u .header .version ≡ 6)) (sym record-same) v in
+    let none : first (innerRules (aSignal (signalOf d) (bodySize d))) ≡ 0 =
+    ap₂ (λ (u : Signal) (m : ℕ). first (innerRules (aSignal u m))) record-same size-same ∙ inner-record s n .none .1 inner in
+    let bytes : num 2 20 d < 2 ^ 16 = num-lt 2 20 d b in
+    let long : 12 ≤ length d = omega (arith, h .size) in (
+      (long
+          also version
+          also (type, family)
+          also (same ∙ sym (h .size), omega arith)
+          also class-of (num 2 20 d) bytes (both _ _ (equal _ _) Iff·rfl .0 class .0)
+          also tdl
+          also (omega arith, omega arith)
+          also (omega arith, omega arith, omega arith)
+          also inner-verdict d .none .0 none),
+      record-same,
+      size-same,
+    )
+  where
+    class-of : (v : ℕ) → v < 2 ^ 16 → v / 2 ^ 14 % 2 ^ 2 ≡ 1 → v / 16384 ≡ 1
+    class-of v small class = omega arith
+
+-- ---- any form
+
+-- a taken datagram has what its form says
+pub taken : (d : List ℕ) → refusal d ≡ 0 → Taken d (content d) (bodyOf d)
+unfolding refusal
+taken d e = by (saysTransmitter d) refl
+  where
+    by : (b : Bool) → saysTransmitter d ≡ b → Taken d (content d) (bodyOf d)
+    by true t =
+        let type = eqb-true _ _ t in
+        subst (λ (r : Reading). Taken d r (bodyIn r d)) (sym (content-transmitter d type))
+        (transmitter-holds d (transmitter-verdict d type .none .0 e))
+    by false t =
+        let type = eqb-false _ _ t in
+        subst (λ (r : Reading). Taken d r (bodyIn r d)) (sym (content-signal d type))
+        (signal-holds d (signal-verdict d type .none .0 e))
+
+-- and bytes that have what a form says are taken, and hold it
+pub takes : (d : List ℕ) (r : Reading) (body : List ℕ) → Bytes d → Taken d r body → (refusal d ≡ 0) × (content d ≡ r)
+unfolding recordRules
+takes d (Refused n) body b h = absurd (omega (arith, h .rules))
+takes d (aTransmitter t) body b h =
+    let (rules, same) = transmitter-rules d t body h in
+    let met = transmitter-met d rules in
+    (met .0, met .1 ∙ ap aTransmitter same)
+takes d (aSignal s n) body b h =
+    let (rules, same, size) = signal-rules d s n body b h in
+    let met = signal-met d rules in
+    (met .0, met .1 ∙ ap₂ aSignal same size)
+
+-- a form whose record meets its rules: the table is sound, and as wide as the size says
+pub sound-form : (r : Reading) → first (recordRules r) ≡ 0 → sound (tableOf r) ≡ true
+sound-form (Refused n) e = refl
+sound-form (aTransmitter t) e = refl
+sound-form (aSignal s n) e =
+    let short = signal-bounds s n e .body in
+    rw (lt-ltb (signalSize n) (256 ^ 2) (omega arith), lt-ltb (dataBits n) (256 ^ 2) (omega arith))
+
+pub width-form : (r : Reading) → width (tableOf r) ≡ sizeOf r
+width-form (Refused n) = refl
+width-form (aTransmitter t) = refl
+width-form (aSignal s n) = omega arith

@@ -1,0 +1,43 @@
+-- What reading answers is also the form of a PDU: its table, its values, its bytes and its size all follow from it.
+use Prim.Native.Nat.{ℕ}
+use mathlib.Core.List.{List, [], _∷_}
+use lib.ListN.{length, take, drop}
+use Rattle.wire.specs.Bytes.{num}
+use Rattle.wire.specs.Table.{Slot, fill}
+use Rattle.pdu.specs.Numbers
+use Rattle.pdu.specs.Tables.{signalSize, transmitterTable, bodyTable, signalTable}
+use Rattle.pdu.specs.Records.{transmitterValues, signalValues}
+use Rattle.pdu.specs.declared.Reading.{Reading}
+use Rattle.pdu.specs.declared.Reading.the-variants.{Refused, Transmitter, Signal}
+
+-- the table of the whole PDU; a refusal has none
+abbrev pub tableOf : Reading → List Slot
+tableOf (Refused n) = []
+tableOf (Transmitter t) = transmitterTable
+tableOf (Signal s n) = signalTable n
+
+-- the values in the table's order, with the body given
+abbrev pub valuesOf : Reading → List ℕ → List ℕ
+valuesOf (Refused n) body = []
+valuesOf (Transmitter t) body = transmitterValues t
+valuesOf (Signal s n) body = signalValues s (num n 0 body)
+
+-- the bytes from byte 52 on: the body, and its fill
+abbrev pub bodyBytes : List ℕ → List ℕ
+bodyBytes body = fill (bodyTable (length body)) (num (length body) 0 body ∷ [])
+
+-- the bytes of the PDU, with the body given
+unfoldable pub bytesOf : Reading → List ℕ → List ℕ
+bytesOf r body = fill (tableOf r) (valuesOf r body)
+
+-- the size of the PDU; 0 where the datagram is refused
+abbrev pub sizeOf : Reading → ℕ
+sizeOf (Refused n) = 0
+sizeOf (Transmitter t) = Numbers.transmitterSize
+sizeOf (Signal s n) = signalSize n
+
+-- the body in a datagram of this form: "the part of the caller's datagram that starts at byte 52"
+abbrev pub bodyIn : Reading → List ℕ → List ℕ
+bodyIn (Refused n) d = []
+bodyIn (Transmitter t) d = []
+bodyIn (Signal s n) d = take n (drop Numbers.bodyStart d)

@@ -1,0 +1,43 @@
+-- What demand 2's two round trips say, for every form of PDU alike.
+use Prim.Native.Nat.{ℕ}
+use mathlib.Core.Path.{_≡_}
+use mathlib.Core.List.{List, [], _++_}
+use lib.ListN.{length, drop}
+use Rattle.wire.specs.Bytes.{Bytes}
+use Rattle.pdu.specs.Forms.{sizeOf, bodyIn, bytesOf}
+use Rattle.pdu.specs.Reading.{content, bodyOf, reading}
+use Rattle.pdu.specs.Writing.{written, outputAfter, writtenForm, paddingZero}
+use Rattle.pdu.specs.declared.Reading.{Reading}
+use Rattle.pdu.specs.declared.Reading.the-variants.{Refused, Transmitter, Signal}
+use Rattle.pdu.specs.declared.Written.the-variants.{Size}
+
+-- "Written back it is the same bytes with padding zero": what was read of d, written with room, answers the size of d and leaves d with padding
+-- zero, and then what stood there
+pub record WrittenBack (d out : List ℕ) : Type 0 where
+  pub answer : written (content d) (length out) ≡ Size (length d)
+  pub output : outputAfter (content d) (bodyOf d) out ≡ paddingZero d ++ drop (length d) out
+
+-- the body that a writing of this form is given: a Transmitter has none
+abbrev pub bodyGiven : Reading → List ℕ → List ℕ
+bodyGiven (Refused n) body = []
+bodyGiven (Transmitter t) body = []
+bodyGiven (Signal s n) body = body
+
+-- and its length
+abbrev pub bodyLength : Reading → ℕ
+bodyLength (Refused n) = 0
+bodyLength (Transmitter t) = 0
+bodyLength (Signal s n) = n
+
+-- "each record written reads back the same", its body too
+pub record ReadsBack (r : Reading) (body : List ℕ) : Type 0 where
+  pub reads : reading (bytesOf r body) ≡ r
+  pub same-body : bodyIn r (bytesOf r body) ≡ bodyGiven r body
+
+-- the written form of a taken datagram: its size, what it reads as, its body; it is its own written form, and bytes
+pub record WrittenForm (d : List ℕ) : Type 0 where
+  pub size : length (writtenForm d) ≡ sizeOf (reading d)
+  pub same : reading (writtenForm d) ≡ reading d
+  pub body : bodyOf (writtenForm d) ≡ bodyOf d
+  pub again : writtenForm (writtenForm d) ≡ writtenForm d
+  pub bytes : Bytes (writtenForm d)

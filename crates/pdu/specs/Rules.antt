@@ -1,0 +1,73 @@
+-- The rules on a record's fields, which reading and writing share, in document 01's order.
+use Prim.Native.Nat.{ℕ}
+use mathlib.Core.Bool.{Bool, cond, not, _&&_, _||_}
+use mathlib.Core.List.{List, [], _∷_, _++_}
+use lib.Dec.{eqb, ltb, leb}
+use Rattle.wire.specs.First.{Refusal, _given-when_}
+use Rattle.pdu.specs.Numbers
+use Rattle.pdu.specs.Words.{wordsIn, wholeWords}
+use Rattle.pdu.specs.declared.Sync.{Sync}
+use Rattle.pdu.specs.declared.Network.{Network}
+use Rattle.pdu.specs.declared.Reading.{Reading}
+use Rattle.pdu.specs.declared.Reading.the-variants.{Refused, Transmitter, Signal}
+
+-- 2: versions 5 and 6 are taken
+unfoldable pub wrongVersion : ℕ → Bool
+wrongVersion v = not (eqb v Numbers.olderVersion || eqb v Numbers.newerVersion)
+
+-- "105 primary mode 1 or 2"
+abbrev pub isPrimary : ℕ → Bool
+isPrimary mode = leb Numbers.firstPrimaryMode mode && leb mode Numbers.lastPrimaryMode
+
+-- 9: the rules of bytes 104 to 111
+unfoldable pub wrongSync : Sync → Bool
+wrongSync s =
+    not
+    (leb (s .level) Numbers.lastLevel
+    && isPrimary (s .primary)
+    && leb (s .secondary) Numbers.lastSecondaryMode
+    && (eqb (s .state) Numbers.coarse || eqb (s .state) Numbers.fine)
+    && (leb Numbers.firstIdLevel (s .level) || eqb (s .id) 0))
+
+-- TSEC and MSEC: 0 to 127, or 255
+abbrev pub wrongSecurity : ℕ → Bool
+wrongSecurity k = not (leb k Numbers.lastSecurity || eqb k Numbers.noSecurity)
+
+-- 13: NPG, net, TSEC and MSEC
+unfoldable pub accessRules : Network → List Refusal
+accessRules n =
+    (13 given-when ltb Numbers.lastNpg (n .npg))
+    ∷ (13 given-when ltb Numbers.lastNet (n .net))
+    ∷ (13 given-when wrongSecurity (n .tsec))
+    ∷ (13 given-when wrongSecurity (n .msec))
+    ∷ []
+
+-- "In epoch 112 the last slot is 45,151"
+abbrev pub isTooLate : Network → Bool
+isTooLate n = eqb (n .epoch) Numbers.lastEpoch && ltb Numbers.lastSlotOfLastEpoch (n .slot)
+
+-- 13: the message type and the slot ID
+unfoldable pub slotRules : Network → List Refusal
+slotRules n =
+    (13 given-when ltb Numbers.lastMessageType (n .«message_type»))
+    ∷ (13 given-when ltb Numbers.lastSlot (n .slot))
+    ∷ (13 given-when ltb Numbers.lastEpoch (n .epoch))
+    ∷ (13 given-when isTooLate n)
+    ∷ []
+
+-- 13: the eight rules of the network header
+unfoldable pub networkRules : Network → List Refusal
+networkRules n = accessRules n ++ slotRules n
+
+-- 14 and 15, for a body of n bytes in a message of the type given
+unfoldable pub bodyRules : ℕ → ℕ → List Refusal
+bodyRules type n =
+    (14 given-when (eqb type 0 && not (wholeWords n)))
+    ∷ (15 given-when cond (eqb type 0) (ltb Numbers.mostWords (wordsIn n)) (ltb Numbers.mostBytes n))
+    ∷ []
+
+-- the rules that reading tries last and writing tries before 16: 9; or 13, 14, 15
+unfoldable pub innerRules : Reading → List Refusal
+innerRules (Refused n) = []
+innerRules (Transmitter t) = (9 given-when wrongSync (t .sync)) ∷ []
+innerRules (Signal s n) = networkRules (s .network) ++ bodyRules (s .network .«message_type») n

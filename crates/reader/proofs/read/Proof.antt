@@ -1,0 +1,27 @@
+-- `read` meets its contract: a refusal, or what the datagram holds.
+-- Assumes nothing.
+use mathlib.Core.Path.{sym, ap, _∙_}
+use Rattle.pdu.specs.declared.Reading.the-variants.{Refused}
+use Rattle.pdu.proofs.Answers.{reading-taken, reading-refused}
+use borrow.Author.Needs.{needs}
+use Rattle.reader.proofs.read.Statement.{statement}
+use Rattle.reader.proofs.read.Tie as tie
+
+reading-refusal-requires : tie.Need-reading-refusal-requires
+reading-refusal-requires c κs = search needs
+
+returns : tie.Need-returns
+returns c =
+    let answer = c .before .reading-refusal .ensures in
+    ap Refused answer ∙ sym (reading-refused _ (λ e. c .if1 .taken (answer ∙ e)))
+
+content-requires : tie.Need-content-requires
+content-requires c κs = sym (c .before .reading-refusal .ensures) ∙ c .if1 .left
+
+returns-2 : tie.Need-returns-2
+returns-2 c =
+    let past = c .before in
+    c .content .ensures ∙ sym (reading-taken _ (sym (past .before .reading-refusal .ensures) ∙ past .if1 .left))
+
+pub read-spec : {M : Type 1} → statement M
+read-spec = tie.close (tie.spec reading-refusal-requires returns content-requires returns-2)

@@ -1,0 +1,64 @@
+// Bytes 0 to 19, which both PDUs share, and the rules that stand there.
+ghost use mathlib.Core.Path.{_≡_};
+ghost use Prim.Native.Nat.{_≤_};
+ghost use lib.ListN.{length};
+ghost use Rattle.wire.specs.First.{first};
+ghost use Rattle.wire.specs.Table.{width};
+ghost use Rattle.pdu.specs.Numbers.{shortest};
+ghost use Rattle.pdu.specs.Tables.{headerTable};
+ghost use Rattle.pdu.specs.Reading.{headerOf, wrongType, wrongLength, startRules};
+use pdu::Header;
+
+// Whether refusal 3 applies.
+fn wrong_type(d: &[u8]) -> bool
+    requires { ⌜ shortest ≤ length (now d) ⌝ }
+    ensures { λ r. ⌜ r ≡ wrongType (now (d .entry)) ⌝ }
+{
+    let pdu_type = wire::u8_at(d, 2);
+    let known = wire::either(
+        pdu_type == pdu::TRANSMITTER_TYPE,
+        pdu_type == pdu::SIGNAL_TYPE,
+    );
+    wire::no(wire::both(known, wire::u8_at(d, 3) == pdu::RADIO_FAMILY))
+}
+
+// The number of the first broken rule of 1, 2 and 3, or 0.
+pub(crate) fn refusal(d: &[u8]) -> u8
+    ensures { λ r. ⌜ r ≡ first (startRules (now (d .entry))) ⌝ }
+{
+    if d.len() < pdu::SHORTEST {
+        return 1;
+    }
+    if pdu::rules::wrong_version(wire::u8_at(d, 0)) {
+        return 2;
+    }
+    if wrong_type(d) {
+        return 3;
+    }
+    0
+}
+
+// Whether refusal 4 applies, for a PDU whose length field is at least `least`.
+pub(crate) fn wrong_length(least: u16, d: &[u8]) -> bool
+    requires { ⌜ shortest ≤ length (now d) ⌝ }
+    ensures { λ r. ⌜ r ≡ wrongLength least (now (d .entry)) ⌝ }
+{
+    let field = wire::u16_at(d, 8);
+    wire::either(wire::no(field as usize == d.len()), field < least)
+}
+
+// The shared fields.
+pub(crate) fn read_header(d: &[u8]) -> Header
+    requires { ⌜ width (headerTable 0 0) ≤ length (now d) ⌝ }
+    ensures { λ r. ⌜ r ≡ headerOf (now (d .entry)) ⌝ }
+{
+    Header {
+        version: wire::u8_at(d, 0),
+        exercise: wire::u8_at(d, 1),
+        timestamp: wire::u32_at(d, 4),
+        site: wire::u16_at(d, 12),
+        application: wire::u16_at(d, 14),
+        entity: wire::u16_at(d, 16),
+        radio: wire::u16_at(d, 18),
+    }
+}

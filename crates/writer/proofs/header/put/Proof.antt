@@ -1,0 +1,44 @@
+-- `header::put` meets its contract: the puts, each a splice at its own place, are one splice of the table's bytes.
+-- Assumes nothing.
+use borrow.Author.Needs.{needs}
+use Rattle.writer.proofs.header.put.Statement.{statement}
+use Rattle.writer.proofs.header.put.Tie as tie
+
+put-u8-x4-requires : tie.Need-put-u8-x4-requires
+put-u8-x4-requires c κs = search needs
+
+put-u32-requires : tie.Need-put-u32-requires
+put-u32-requires c κs = search needs
+
+put-u16-x2-requires : tie.Need-put-u16-x2-requires
+put-u16-x2-requires c κs = search needs
+
+put-u16-x4-requires : tie.Need-put-u16-x4-requires
+put-u16-x4-requires c κs = search needs
+
+same-length : tie.Need-same-length
+same-length c = search needs
+
+returns : tie.Need-returns
+returns c =
+    let fourth = c .before .before in
+    let third = fourth .before .before .before .before in
+    let second = third .before .before .before .before in
+    let first = second .before .before .before .before in
+    rw (
+      fourth .put-u16-x4 .ensures,
+      third .put-u16-x2 .ensures,
+      second .put-u32 .ensures,
+      first .put-u8-x4 .ensures,
+    )
+
+pub put-spec : {M : Type 1} → statement M
+put-spec =
+    tie.close
+    (tie.spec
+    put-u8-x4-requires
+    put-u32-requires
+    put-u16-x2-requires
+    put-u16-x4-requires
+    same-length
+    returns)
