@@ -6,12 +6,18 @@ ARCHIVE ?= target/staticlib/libhost.a
 LISTER ?= target/bin/lister
 REPLAY ?= target/bin/replay
 BENCH ?= target/bin/bench
+PLANNER ?= target/bin/planner
+PLANCHECK ?= target/bin/plancheck
+PLANBENCH ?= target/bin/planbench
 
 # The programs that rt builds, one to a line.
 PROGRAMS := \
     target/bin/lister \
     target/bin/replay \
-    target/bin/bench
+    target/bin/bench \
+    target/bin/planner \
+    target/bin/plancheck \
+    target/bin/planbench
 
 CC := gcc
 CFLAGS := -std=c11 -O2 -Wall -Wextra -Werror
@@ -65,8 +71,8 @@ test: rust-compiler kit
 
 .PHONY: bench
 ## make bench            time the archive and the bench program against the second program       4 minutes, then 1
-bench: rust-compiler $(SECOND) $(BENCH)
-	@$(SECOND) bench --bench $(BENCH)
+bench: rust-compiler $(SECOND) $(BENCH) $(PLANBENCH)
+	@$(SECOND) bench --bench $(BENCH) --planbench $(PLANBENCH)
 
 .PHONY: archive
 ## make archive          the archive that C links, target/staticlib/libhost.a                    3 minutes
@@ -74,7 +80,7 @@ archive: $(ARCHIVE)
 
 .PHONY: programs
 ## make programs         the proved programs, in target/bin                                      5 minutes
-programs: $(LISTER) $(REPLAY) $(BENCH)
+programs: $(LISTER) $(REPLAY) $(BENCH) $(PLANNER) $(PLANCHECK) $(PLANBENCH)
 
 .PHONY: runs
 ## make runs             the stored runs of the programs alone                                   5 minutes
@@ -110,6 +116,11 @@ compare-replay: rust-compiler $(SECOND) $(REPLAY)
 ## make compare-jobs     the bench program and the second program on small jobs                  4 minutes
 compare-jobs: rust-compiler $(SECOND) $(BENCH)
 	@$(SECOND) compare-jobs --bench $(BENCH)
+
+.PHONY: compare-plans
+## make compare-plans    the planner and the check of plans, tried slot by slot                  4 minutes
+compare-plans: rust-compiler $(SECOND) $(PLANNER) $(PLANCHECK)
+	@$(SECOND) compare-plans --planner $(PLANNER) --plancheck $(PLANCHECK)
 
 .PHONY: clean
 ## make clean            remove all that was built

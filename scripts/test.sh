@@ -41,4 +41,5 @@ counted 'compare-records' make compare-records
 counted 'compare-lister' make compare-lister
 counted 'compare-replay' make compare-replay
 counted 'compare-jobs' make compare-jobs
+counted 'compare-plans' make compare-plans
 echo "$total passed, 0 failed"

@@ -11,6 +11,7 @@ mod hex;
 mod jobs;
 mod numbers;
 mod pdu;
+mod plans;
 mod random;
 mod sample;
 mod trunk;
@@ -30,6 +31,8 @@ const USAGE: &str = "usage:
   second compare-lister --lister PROGRAM [--seed S] [--count N]   a lister on N streams
   second compare-replay --replay PROGRAM [--seed S] [--count N]   a replay on N calls
   second compare-jobs --bench PROGRAM             a bench program on a few small jobs
+  second compare-plans --planner PROGRAM --plancheck PROGRAM [--seed S] [--count N]
+                                                  a planner and a check of plans on N lists of rates
   second compare-lister --lister PROGRAM --input FILE   a lister on one stream
   second compare-replay --replay PROGRAM --input FILE   a replay on one script
   second compare-jobs --bench PROGRAM --input FILE      a bench program on these jobs
@@ -40,7 +43,9 @@ const USAGE: &str = "usage:
   second jobs         run the jobs on standard input, as the bench program does
   second exercise     print a sample exercise, a script for replay
   second tell         tell what the output of replay on standard input says
-  second bench --bench PROGRAM   time the archive and a bench program against this one";
+  second plan-job     run the job on standard input, as planbench does
+  second bench --bench PROGRAM --planbench PROGRAM
+                      time the archive and the bench programs against this one";
 
 const DEFAULT_SEED: u64 = 1;
 const BAD_ARGUMENTS: u8 = 2;
@@ -70,6 +75,10 @@ fn run(words: &[&str]) -> Result<ExitCode, String> {
         ["compare-lister", "--lister", program, rest @ ..] => compare_lister(program, rest),
         ["compare-replay", "--replay", program, rest @ ..] => compare_replay(program, rest),
         ["compare-jobs", "--bench", program, rest @ ..] => compare_jobs(program, rest),
+        ["compare-plans", "--planner", planner, "--plancheck", plancheck, rest @ ..] => {
+            let (seed, count) = settings(rest, compare::plans::DEFAULT_COUNT)?;
+            compare::plans::run(Path::new(planner), Path::new(plancheck), seed, count)
+        }
         ["one", text] => Ok(compare::compare_one(&DATAGRAMS, &bytes(text)?)),
         ["record", text] => Ok(compare::compare_one(&RECORDS, &bytes(text)?)),
         ["list"] => print(trunk::lister::list(&input()?)),
@@ -77,8 +86,9 @@ fn run(words: &[&str]) -> Result<ExitCode, String> {
         ["jobs"] => print(jobs::run(&input()?)),
         ["exercise"] => print(sample::exercise::script()),
         ["tell"] => print(sample::tell::tell(&String::from_utf8_lossy(&input()?))?),
-        ["bench", "--bench", program] => {
-            bench::run(Path::new(program))?;
+        ["plan-job"] => print(bench::plans::run_job(&String::from_utf8_lossy(&input()?))?),
+        ["bench", "--bench", program, "--planbench", planbench] => {
+            bench::run(Path::new(program), Path::new(planbench))?;
             Ok(ExitCode::SUCCESS)
         }
         [] => Err("no command".to_string()),

@@ -3,6 +3,7 @@
 
 mod calls;
 mod jobs;
+pub mod plans;
 mod table;
 
 use std::path::Path;
@@ -13,11 +14,12 @@ const ROUNDS: usize = 21;
 const WORDS: [usize; 6] = [0, 1, 2, 4, 8, 12];
 
 /// Prints every table; the error is that the bench program cannot be run, or does something else.
-pub fn run(program: &Path) -> Result<(), String> {
+pub fn run(program: &Path, planbench: &Path) -> Result<(), String> {
     println!("nanoseconds for each call, cycle or step: the median of alternating rounds");
     println!("ratio: second / proved, of the median round; above 1 the proved code is faster");
     calls::time_reading();
     calls::time_record_check();
     jobs::time_cycles(program)?;
-    jobs::time_station(program)
+    jobs::time_station(program)?;
+    plans::time(planbench)
 }

@@ -8,6 +8,7 @@ pub mod jobs;
 mod known_cases;
 pub mod lister;
 mod outputs;
+pub mod plans;
 pub mod program;
 pub mod records;
 pub mod replay;
