@@ -55,7 +55,7 @@ help:
 	@echo 'a crate changes: a second time all but test and bench take seconds.'
 
 .PHONY: run
-## make run              an example C host, and a sample exercise over the trunk                 5 minutes
+## make run              an example C host, and a sample exercise over the trunk                 4 minutes
 run: rust-compiler $(EXAMPLE) $(SECOND) $(REPLAY)
 	@echo 'What a C host learns of datagrams and trunk records:'
 	@$(EXAMPLE)
@@ -64,7 +64,7 @@ run: rust-compiler $(EXAMPLE) $(SECOND) $(REPLAY)
 	@$(SECOND) exercise | $(REPLAY) | $(SECOND) tell
 
 .PHONY: test
-## make test             every proof, test and comparison, from nothing; ends with the counts   25 minutes
+## make test             every proof, test and comparison, from nothing; ends with the counts   15 minutes
 test: rust-compiler kit
 	$(need-rt)
 	@KIT_TOLD=yes scripts/test.sh
@@ -108,7 +108,7 @@ compare-lister: rust-compiler $(SECOND) $(LISTER)
 	@$(SECOND) compare-lister --lister $(LISTER)
 
 .PHONY: compare-replay
-## make compare-replay   both ends and the second program on scripts of calls                    5 minutes
+## make compare-replay   both ends and the second program on scripts of calls                    4 minutes
 compare-replay: rust-compiler $(SECOND) $(REPLAY)
 	@$(SECOND) compare-replay --replay $(REPLAY)
 

@@ -3,5 +3,6 @@ pub mod WordLaws
 pub mod Agreement
 pub mod Answers
 pub mod Taken
+pub mod FieldLaws
 pub mod RoundTrip
 pub mod ReadLaws

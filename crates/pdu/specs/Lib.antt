@@ -10,3 +10,4 @@ pub mod Writing
 pub mod Plain
 pub mod Fits
 pub mod RoundTrips
+pub mod Fields

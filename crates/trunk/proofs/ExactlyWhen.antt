@@ -4,20 +4,25 @@
 use Prim.Native.Nat.{ℕ}
 use mathlib.Core.Path.{_≡_, refl, sym, ap, ap₂, subst, _∙_}
 use mathlib.Core.Logic.{_↔_, _≢_}
+use mathlib.Core.Bool.{Bool, true, false}
 use mathlib.Core.List.{List, [], _∷_}
 use lib.ListN.{length, getD}
+use lib.Dec.{eqb}
+use borrow.Author.Tests.{eqb-true, eqb-false}
 use native.Mathlib.Omega.{arith}
-use Rattle.wire.specs.Bytes.{Bytes}
-use Rattle.wire.specs.First.{Refusal}
+use Rattle.wire.specs.Bytes.{num, Bytes}
+use Rattle.wire.specs.First.{Refusal, first}
 use Rattle.wire.specs.Rules.{Rule, Met, FirstBroken}
 use Rattle.wire.specs.Rules.{Verdict}
 use Rattle.station.specs.Hearing.{heard}
-use Rattle.trunk.specs.Kinds.{recordSize}
-use Rattle.trunk.specs.Record.{numberIn, carriedIn}
+use Rattle.trunk.specs.Kinds.{load, isNothing, recordSize}
+use Rattle.trunk.specs.Record.{kindIn, numberIn, carriedIn, isReply, checkRules, checked}
 use Rattle.trunk.specs.Near.{rowKind, acknowledgedAfter, offerSays, sendSays, replySays, offered, sent, replied}
 use Rattle.trunk.specs.Far.{arrived, arrivalSays}
-use Rattle.trunk.specs.Exactly.{OfferExactly, SendExactly, ReplyExactly, ArriveExactly}
-use Rattle.trunk.specs.Plain.{plainOffer, plainSend, plainReply, plainArrival}
+use Rattle.trunk.specs.Exactly.{OfferExactly, SendExactly, ReplyExactly, ArriveExactly, CheckExactly}
+use Rattle.trunk.specs.Plain.{plainOffer, plainSend, plainReply, plainArrival, plainCheck}
+use Rattle.trunk.specs.declared.Checked.{Checked}
+use Rattle.trunk.specs.declared.Checked.the-variants.{Refused as checkRefused, Reply as aReply, Pdu}
 use Rattle.trunk.specs.declared.Near.{Near}
 use Rattle.trunk.specs.declared.Far.{Far}
 use Rattle.trunk.specs.declared.Offer.the-variants.{Refused as offerRefused, Taken}
@@ -29,8 +34,8 @@ use Rattle.trunk.specs.declared.Replied.{Replied}
 use Rattle.trunk.specs.declared.Arrival.{Arrival}
 use Rattle.trunk.specs.declared.Arrival.the-variants.{Refused as arrivalRefused, Delivered, Repeat, Early}
 use Rattle.trunk.specs.declared.Arrived.{Arrived}
-use Rattle.trunk.proofs.KindLaws.{plain-length}
-use Rattle.trunk.proofs.RuleLaws.{offer-verdict, send-verdict, reply-verdict, arrival-verdict}
+use Rattle.trunk.proofs.KindLaws.{plain-length, reply-says, no-reply-says}
+use Rattle.trunk.proofs.RuleLaws.{offer-verdict, send-verdict, reply-verdict, arrival-verdict, check-verdict}
 use Rattle.trunk.proofs.CallLaws.{after-is-max, OfferOutcome, offer-refused, offer-taken, offer-outcome, SendOutcome, send-refused}
 use Rattle.trunk.proofs.CallLaws.{send-taken, send-outcome, ReplyOutcome, reply-refused, reply-taken, reply-outcome, ArrivalOutcome}
 use Rattle.trunk.proofs.CallLaws.{arrival-refused, arrival-delivered, arrival-repeat, arrival-early, arrival-outcome}
@@ -215,3 +220,72 @@ pub arrive-exactly-when :
     → Bytes r
     → ArriveExactly far r (length reply) (length out) (arrived far r (length reply) (length out) .answer)
 arrive-exactly-when far r reply out b = arrive-exactly far r reply out b (arrival-outcome far r reply out b)
+
+-- ---- the check of a record
+
+check-no-pdu : (n kind number size : ℕ) → checkRefused n ≢ Pdu kind number size
+check-no-pdu n kind number size e = let z : _≡_ {A = ℕ} 0 1 = cc in omega arith
+
+check-no-reply : (n number size : ℕ) → checkRefused n ≢ aReply number size
+check-no-reply n number size e = let z : _≡_ {A = ℕ} 0 1 = cc in omega arith
+
+reply-no-pdu : (a b kind number size : ℕ) → aReply a b ≢ Pdu kind number size
+reply-no-pdu a b kind number size e = let z : _≡_ {A = ℕ} 0 1 = cc in omega arith
+
+-- the number of a check's refusal, as a list
+abbrev checkSays : Checked → List ℕ
+checkSays (checkRefused n) = n ∷ []
+checkSays (aReply number size) = []
+checkSays (Pdu kind number size) = []
+
+same-reply : (a b number size : ℕ) → aReply a b ≡ aReply number size → (number ≡ a) × (size ≡ b)
+same-reply a b number size e = (cc, cc)
+
+same-pdu : (a b c kind number size : ℕ) → Pdu a b c ≡ Pdu kind number size → (kind ≡ a) × (number ≡ b) × (size ≡ c)
+same-pdu a b c kind number size e = (cc, cc, cc)
+
+-- a check's answer, exactly when
+pub check-exactly-when : (r : List ℕ) → Bytes r → CheckExactly r (checked r)
+unfolding checked isReply
+check-exactly-when r b = by (eqb (first (checkRules r)) 0) refl (isNothing (load (kindIn r))) refl
+  where
+    v : Verdict (checkRules r) (plainCheck r)
+    v = check-verdict r b
+
+    met : first (checkRules r) ≡ 0 → Met (plainCheck r)
+    met e = v .none .0 e
+
+    by : (t : Bool) → eqb (first (checkRules r)) 0 ≡ t → (u : Bool) → isNothing (load (kindIn r)) ≡ u → CheckExactly r (checked r)
+    by true none true reply =
+        let all = met (eqb-true _ _ none) in
+        let kind : num 1 0 r ≡ 32 = reply-says (num 1 0 r) .0 reply in
+        subst (CheckExactly r) (sym (rw (none, reply)))
+        record {
+          refused = λ n. neither-holds (λ e. check-no-reply n _ _ (sym e)) (λ f. clash (plainCheck r) v n f all);
+          reply = λ number size. (
+            (λ e. let s = same-reply _ _ number size e in (all, kind, s .0, s .1)),
+            (λ x. ap₂ aReply (sym (x .2)) (sym (x .3))),
+          );
+          pdu = λ k number size. neither-holds (reply-no-pdu _ _ k number size) (λ x. x .1 kind);
+        }
+    by true none false pdu =
+        let all = met (eqb-true _ _ none) in
+        let kind : num 1 0 r ≢ 32 = no-reply-says (num 1 0 r) .0 pdu in
+        subst (CheckExactly r) (sym (rw (none, pdu)))
+        record {
+          refused = λ n. neither-holds (λ e. check-no-pdu n _ _ _ (sym e)) (λ f. clash (plainCheck r) v n f all);
+          reply = λ number size. neither-holds (λ e. reply-no-pdu number size _ _ _ (sym e)) (λ x. kind (x .1));
+          pdu = λ k number size. (
+            (λ e. let s = same-pdu _ _ _ k number size e in (all, kind, s .0, s .1, s .2)),
+            (λ x i. Pdu (sym (x .2) i) (sym (x .3) i) (sym (x .4) i)),
+          );
+        }
+    by false some u reply =
+        let m : ℕ = first (checkRules r) in
+        let f : FirstBroken m (plainCheck r) = v .some m .0 (refl, eqb-false _ _ some) in
+        subst (CheckExactly r) (sym (rw some))
+        record {
+          refused = refused-as checkRefused checkSays (λ n. refl) (plainCheck r) v m f;
+          reply = λ number size. neither-holds (check-no-reply m number size) (λ x. clash (plainCheck r) v m f (x .0));
+          pdu = λ k number size. neither-holds (check-no-pdu m k number size) (λ x. clash (plainCheck r) v m f (x .0));
+        }

@@ -2,7 +2,7 @@
 -- where n is the number of the first that does not. By the laws of tests and of rules in order.
 -- Assumes nothing.
 use Prim.Native.Nat.{ℕ, _-_, _≤_, _<_}
-use mathlib.Core.Path.{_≡_, refl, sym, _∙_}
+use mathlib.Core.Path.{_≡_, refl, sym, ap, _∙_}
 use mathlib.Core.Logic.{_↔_, _≢_, inl, inr, Iff·trans}
 use mathlib.Core.Bool.{Bool, true, false, not, true≢false}
 use mathlib.Core.List.{List, _∷_}
@@ -19,11 +19,11 @@ use Rattle.wire.specs.Rules.{Verdict}
 use Rattle.pdu.specs.Reading.{refusal}
 use Rattle.trunk.specs.Head.{headSize}
 use Rattle.trunk.specs.Kinds.{longestPdu}
-use Rattle.trunk.specs.Record.{carriedIn, unknownKind, wrongSize, isReply, lastOfAll, wrongCarried, formRules, pduRules}
+use Rattle.trunk.specs.Record.{carriedIn, unknownKind, wrongSize, isReply, lastOfAll, wrongCarried, formRules, pduRules, checkRules}
 use Rattle.trunk.specs.Near.{rows, wrongStore, offerRulesOf, offerRules, isHeld, sendRules, replyRules}
 use Rattle.trunk.specs.Far.{noRoom, arrivalRules}
 use Rattle.trunk.specs.Plain.{StoreRule, NumberRule, WindowRule, RoomRule, ReplyKind, KindRule, LengthRule, CarriedRule, TypeRule}
-use Rattle.trunk.specs.Plain.{plainOffer, plainSend, plainReply, plainArrival}
+use Rattle.trunk.specs.Plain.{plainOffer, plainSend, plainReply, plainArrival, plainCheck}
 use Rattle.trunk.specs.declared.Near.{Near}
 use Rattle.trunk.proofs.KindLaws.{known-says, reply-says, no-reply-says, plain-length}
 use Rattle.trunk.proofs.RecordLaws.{reader-number, type-says, carried-says, Sound, SoundReply}
@@ -190,3 +190,17 @@ arrival-passes r replyRoom room s h k =
 pub reply-passes : (near : Near) (r : List ℕ) (n : ℕ) → SoundReply r n → n ≤ near .accepted → first (replyRules near r) ≡ 0
 unfolding replyRules formRules
 reply-passes near r n s h = rw (s .known, s .sized, s .reply, s .number-is, le-ltb (near .accepted) n h)
+
+-- 25 and 22 of a check, where the record is no reply
+pdu-says : (r : List ℕ) → (not (isReply r) ≡ true) ↔ ¬ ReplyKind (num 1 0 r)
+pdu-says r = (λ e. is-pdu-says r .0 (not-true _ e), λ h. ap not (is-pdu-says r .1 h))
+
+pub check-verdict : (r : List ℕ) → Bytes r → Verdict (checkRules r) (plainCheck r)
+unfolding checkRules formRules pduRules lastOfAll wrongCarried
+check-verdict r b =
+    verdict
+    (kind-says r
+    then λ kind. length-says r
+    then λ size. if-so _ _ (pdu-says r) (differs _ _)
+    then λ last. if-so _ _ (pdu-says r) (carried-says (carriedIn r) (num 1 0 r) (bytes-drop headSize r b) (omega (arith, b 0)))
+    then λ carried. done)

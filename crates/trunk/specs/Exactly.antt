@@ -2,13 +2,15 @@
 -- that does not hold, and every other answer is given exactly where all rules hold, with the values that document 01 names.
 use Prim.Native.Nat.{ℕ, _<_, max}
 use mathlib.Core.Path.{_≡_}
-use mathlib.Core.Logic.{_↔_}
+use mathlib.Core.Logic.{_↔_, _≢_}
 use mathlib.Core.List.{List}
 use lib.ListN.{length, drop}
 use Rattle.wire.specs.Bytes.{num}
 use Rattle.wire.specs.Rules.{Met, FirstBroken}
 use Rattle.station.specs.Hearing.{heard}
-use Rattle.trunk.specs.Plain.{plainLength, plainRowKind, plainOffer, plainSend, plainReply, plainArrival}
+use Rattle.trunk.specs.Plain.{plainLength, plainRowKind, plainOffer, plainSend, plainReply, plainArrival, plainCheck}
+use Rattle.trunk.specs.declared.Checked.{Checked}
+use Rattle.trunk.specs.declared.Checked.the-variants.{Refused as checkRefused, Reply as aReply, Pdu}
 use Rattle.trunk.specs.declared.Near.{Near}
 use Rattle.trunk.specs.declared.Far.{Far}
 use Rattle.trunk.specs.declared.Offer.{Offer}
@@ -47,3 +49,15 @@ pub record ArriveExactly (far : Far) (r : List ℕ) (replyRoom room : ℕ) (a : 
       × (answer ≡ heard (far .station) (drop 5 r) .answer))
   pub repeat : (a ≡ Repeat) ↔ (Met (plainArrival r replyRoom room) × (num 4 1 r < far .count))
   pub early : (a ≡ Early) ↔ (Met (plainArrival r replyRoom room) × (far .count < num 4 1 r))
+
+-- the check of a record: a refusal's number, or kind, number and size as they stand in it
+pub record CheckExactly (r : List ℕ) (c : Checked) : Type 0 where
+  pub refused : (n : ℕ) → (c ≡ checkRefused n) ↔ FirstBroken n (plainCheck r)
+  pub reply :
+      (number size : ℕ)
+      → (c ≡ aReply number size)
+      ↔ (Met (plainCheck r) × (num 1 0 r ≡ 32) × (number ≡ num 4 1 r) × (size ≡ length r))
+  pub pdu :
+      (kind number size : ℕ)
+      → (c ≡ Pdu kind number size)
+      ↔ (Met (plainCheck r) × (num 1 0 r ≢ 32) × (kind ≡ num 1 0 r) × (number ≡ num 4 1 r) × (size ≡ length r))

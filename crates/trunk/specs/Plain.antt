@@ -134,3 +134,12 @@ plainArrival r replyRoom room =
     ∷ (22 unless CarriedRule r)
     ∷ (16 unless RoomRule replyRoom room)
     ∷ []
+
+-- "The lister and the host's check test 20, 21, 25, 22"; 25 and 22 are of a PDU record
+abbrev pub plainCheck : List ℕ → List Rule
+plainCheck r =
+    (20 unless KindRule r)
+    ∷ (21 unless LengthRule r)
+    ∷ (25 unless (¬ ReplyKind (num 1 0 r) → NumberRule (num 4 1 r)))
+    ∷ (22 unless (¬ ReplyKind (num 1 0 r) → CarriedRule r))
+    ∷ []

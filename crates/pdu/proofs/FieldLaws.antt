@@ -1,0 +1,87 @@
+-- Each field of what was read is the number at its byte place (`transmitter-fields`, `signal-fields`): the tables compute to these places. A Signal's
+-- data length gives its body's size back, since a taken one counts whole bytes and its network header. A word's parts are those of its 80 bits.
+-- Assumes nothing.
+use Prim.Native.Nat.{ℕ, _*_, _+_, _/_, _%_, _^_}
+use mathlib.Core.Path.{_≡_, refl, sym, ap, subst, _∙_}
+use mathlib.Core.List.{List}
+use lib.ListN.{length}
+use borrow.Author.Tests.{lt-ltb, le-ltb}
+use native.Mathlib.Nat.{div-one}
+use native.Mathlib.Omega.{arith}
+use Rattle.wire.specs.Bytes.{num}
+use Rattle.pdu.specs.Forms.{bodyIn}
+use Rattle.pdu.specs.Reading.{transmitterOf, signalOf, bodySize, bodyOf, reading}
+use Rattle.pdu.specs.Words.{wordsIn, wordAt}
+use Rattle.pdu.specs.Fields.{TransmitterFields, SignalFields, WordParts}
+use Rattle.pdu.specs.declared.Word.the-variants.{Here}
+use Rattle.pdu.specs.declared.Transmitter.{Transmitter}
+use Rattle.pdu.specs.declared.Signal.{Signal}
+use Rattle.pdu.specs.declared.Reading.{Reading}
+use Rattle.pdu.specs.declared.Reading.the-variants.{Transmitter as aTransmitter, Signal as aSignal}
+use Rattle.pdu.proofs.Answers.{reads-as, as-transmitter, as-signal, taken-exactly-when}
+
+-- where a table places each field
+transmitter-places : (d : List ℕ) → TransmitterFields d (transmitterOf d)
+unfolding transmitterOf
+transmitter-places d =
+    record {
+      header =
+          record { version = refl; exercise = refl; timestamp = refl; site = refl; application = refl; entity = refl; radio = refl };
+      entity = record { kind = refl; domain = refl; country = refl; version = refl; nomenclature = refl; state = refl };
+      antenna = record { x = refl; y = refl; z = refl; dx = refl; dy = refl; dz = refl; pattern = refl };
+      emission = record { frequency = refl; bandwidth = refl; power = refl; spread = refl; crypto = refl; key = refl };
+      sync = record { level = refl; primary = refl; secondary = refl; state = refl; id = refl };
+    }
+
+-- of every datagram that reads as a Transmitter
+pub transmitter-fields : (d : List ℕ) (t : Transmitter) → reading d ≡ aTransmitter t → TransmitterFields d t
+transmitter-fields d t e =
+    let (type, same) = as-transmitter d t (reads-as d (aTransmitter t) tt e .1) in
+    subst (TransmitterFields d) (sym same) (transmitter-places d)
+
+signal-places : (d : List ℕ) (n : ℕ) (body : List ℕ)
+    → 8 * (20 + n) ≡ num 2 28 d
+    → body ≡ bodyIn (aSignal (signalOf d) n) d
+    → SignalFields d (signalOf d) n body
+unfolding signalOf
+signal-places d n body bits held =
+    record {
+      header =
+          record { version = refl; exercise = refl; timestamp = refl; site = refl; application = refl; entity = refl; radio = refl };
+      encoding = ap (λ (v : ℕ). v % 2 ^ 14) (div-one (num 2 20 d));
+      rate = refl;
+      samples = refl;
+      network =
+          record {
+            npg = refl;
+            net = refl;
+            tsec = refl;
+            msec = refl;
+            message-type = refl;
+            slot = ap (λ (v : ℕ). v % 2 ^ 17) (div-one (num 4 40 d));
+            epoch = refl;
+            time = refl;
+          };
+      body-size = bits;
+      body-bytes = held;
+    }
+
+-- of every datagram that reads as a Signal
+pub signal-fields : (d : List ℕ) (s : Signal) (n : ℕ) → reading d ≡ aSignal s n → SignalFields d s n (bodyOf d)
+signal-fields d s n e =
+    let (none, holds) = reads-as d (aSignal s n) tt e in
+    let (type, same, size) = as-signal d s n holds in
+    let (long, (v, (known, (field, (class, (tdl, ((whole, enough), rest))))))) = taken-exactly-when d .signal-taken .0 (s, n, e) in
+    let bits : 8 * (20 + n) ≡ num 2 28 d = omega arith in
+    subst (λ (g : Signal). SignalFields d g n (bodyOf d)) (sym same)
+    (signal-places d n (bodyOf d) bits (ap (λ (r : Reading). bodyIn r d) holds))
+
+-- the parts of every word of every body, and that there is none behind the last
+pub word-parts : (body : List ℕ) (i : ℕ) → WordParts body i
+unfolding wordAt
+word-parts body i =
+    let v : ℕ = num 10 (6 + 10 * i) body in
+    record {
+      here = λ long. rw (lt-ltb i (wordsIn (length body)) (omega arith)) (ap (λ (f : ℕ). Here (f % 2 ^ 2) (v / 2 ^ 2 % 2 ^ 5) (v / 2 ^ 7 % 2 ^ 3)) (div-one v));
+      absent = λ short. rw (le-ltb i (wordsIn (length body)) (omega arith));
+    }
