@@ -1,6 +1,7 @@
 // Link 16 PDUs (DIS Transmitter and Signal): the types that reading and writing share, the numbers of document 01 that other crates use,
 // and the tests of a record's fields. What reading and writing mean stands in specs/; the crates `reader` and `writer` do it.
 
+pub mod refusals;
 pub mod rules;
 
 // Bytes 0 to 19: the PDU types, their family, the versions taken, and the least bytes that hold a type.

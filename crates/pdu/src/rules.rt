@@ -8,6 +8,7 @@ ghost use Rattle.pdu.specs.Rules.{wrongVersion, isPrimary, wrongSync, wr
 ghost use Rattle.pdu.specs.Rules.{bodyRules};
 use crate::Network;
 use crate::Sync;
+use crate::refusals;
 
 // Whether refusal 2 applies to a version.
 pub fn wrong_version(v: u8) -> bool
@@ -52,16 +53,16 @@ fn access_refusal(n: Network) -> u8
     ensures { λ r. ⌜ r ≡ first (accessRules n) ⌝ }
 {
     if crate::LAST_NPG < n.npg {
-        return 13;
+        return refusals::NETWORK_HEADER;
     }
     if crate::LAST_NET < n.net {
-        return 13;
+        return refusals::NETWORK_HEADER;
     }
     if wrong_security(n.tsec) {
-        return 13;
+        return refusals::NETWORK_HEADER;
     }
     if wrong_security(n.msec) {
-        return 13;
+        return refusals::NETWORK_HEADER;
     }
     0
 }
@@ -81,16 +82,16 @@ fn slot_refusal(n: Network) -> u8
     ensures { λ r. ⌜ r ≡ first (slotRules n) ⌝ }
 {
     if crate::LAST_MESSAGE_TYPE < n.message_type {
-        return 13;
+        return refusals::NETWORK_HEADER;
     }
     if crate::LAST_SLOT < n.slot {
-        return 13;
+        return refusals::NETWORK_HEADER;
     }
     if crate::LAST_EPOCH < n.epoch {
-        return 13;
+        return refusals::NETWORK_HEADER;
     }
     if is_too_late(n) {
-        return 13;
+        return refusals::NETWORK_HEADER;
     }
     0
 }
@@ -123,15 +124,15 @@ pub fn body_refusal(message_type: u8, n: usize) -> u8
     if message_type == 0 {
         let words = words_in(n);
         if n != crate::BODY_HEADER + crate::WORD_BYTES * words {
-            return 14;
+            return refusals::BODY_SIZE;
         }
         if crate::MOST_WORDS < words {
-            return 15;
+            return refusals::BODY_LIMIT;
         }
         return 0;
     }
     if crate::MOST_BYTES < n {
-        return 15;
+        return refusals::BODY_LIMIT;
     }
     0
 }

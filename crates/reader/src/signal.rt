@@ -14,6 +14,7 @@ use crate::start;
 use crate::words;
 use pdu::Network;
 use pdu::Signal;
+use pdu::refusals;
 
 // Whether refusal 12 applies to a data length in bits.
 fn wrong_bits(bits: u16) -> bool
@@ -28,20 +29,20 @@ fn layout_refusal(d: &[u8]) -> u8
     ensures { λ r. ⌜ r ≡ first (signalLayout (now (d .entry))) ⌝ }
 {
     if start::wrong_length(pdu::SIGNAL_LEAST, d) {
-        return 4;
+        return refusals::LENGTH;
     }
     if wire::u16_at(d, 20) / pdu::ENCODING_KEPT != pdu::ENCODING_CLASS {
-        return 10;
+        return refusals::ENCODING;
     }
     if wire::u16_at(d, 22) != pdu::TDL_TYPE {
-        return 11;
+        return refusals::TDL_TYPE;
     }
     let bits = wire::u16_at(d, 28);
     if wrong_bits(bits) {
-        return 12;
+        return refusals::DATA_LENGTH;
     }
     if d.len() != pdu::rules::filled_size(pdu::SIGNAL_LEAST, bits / 8) {
-        return 8;
+        return refusals::PDU_SIZE;
     }
     0
 }

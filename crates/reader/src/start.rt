@@ -8,6 +8,7 @@ ghost use Rattle.pdu.specs.Numbers.{shortest};
 ghost use Rattle.pdu.specs.Tables.{headerTable};
 ghost use Rattle.pdu.specs.Reading.{headerOf, wrongType, wrongLength, startRules};
 use pdu::Header;
+use pdu::refusals;
 
 // Whether refusal 3 applies.
 fn wrong_type(d: &[u8]) -> bool
@@ -27,13 +28,13 @@ pub(crate) fn refusal(d: &[u8]) -> u8
     ensures { λ r. ⌜ r ≡ first (startRules (now (d .entry))) ⌝ }
 {
     if d.len() < pdu::SHORTEST {
-        return 1;
+        return refusals::SHORT;
     }
     if pdu::rules::wrong_version(wire::u8_at(d, 0)) {
-        return 2;
+        return refusals::VERSION;
     }
     if wrong_type(d) {
-        return 3;
+        return refusals::TYPE;
     }
     0
 }

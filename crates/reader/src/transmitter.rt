@@ -15,6 +15,7 @@ use pdu::Emission;
 use pdu::Entity;
 use pdu::Sync;
 use pdu::Transmitter;
+use pdu::refusals;
 
 // Bytes 90 to 93 as one number: one test in place of two.
 const MAJOR_AND_DETAIL: u32 = pdu::MAJOR as u32 * 65536 + pdu::DETAIL as u32;
@@ -38,19 +39,19 @@ fn layout_refusal(d: &[u8]) -> u8
     ensures { λ r. ⌜ r ≡ first (transmitterLayout (now (d .entry))) ⌝ }
 {
     if start::wrong_length(pdu::TRANSMITTER_LEAST, d) {
-        return 4;
+        return refusals::LENGTH;
     }
     if wrong_fixed(d) {
-        return 5;
+        return refusals::RADIO;
     }
     if wire::u8_at(d, 100) != pdu::MODULATION_LENGTH {
-        return 6;
+        return refusals::MODULATION_LENGTH;
     }
     if wire::u16_at(d, 70) != pdu::PATTERN_LENGTH {
-        return 7;
+        return refusals::PATTERN_LENGTH;
     }
     if d.len() != pdu::TRANSMITTER_SIZE {
-        return 8;
+        return refusals::PDU_SIZE;
     }
     0
 }
@@ -78,7 +79,7 @@ pub(crate) fn refusal(d: &[u8]) -> u8
         return n;
     }
     if pdu::rules::wrong_sync(read_sync(d)) {
-        return 9;
+        return refusals::MODULATION;
     }
     0
 }

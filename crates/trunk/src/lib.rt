@@ -6,6 +6,7 @@ pub mod far_end;
 pub mod kinds;
 pub mod near_end;
 pub mod records;
+mod refusals;
 
 // What a record carries behind its head: a type 0 Signal of so many words, a Transmitter, or nothing; or its kind is unknown.
 pub enum Load {

@@ -20,6 +20,7 @@ use crate::Sending;
 use crate::Sent;
 use crate::kinds;
 use crate::records;
+use crate::refusals;
 use pdu::Reading;
 
 const ROWS: u32 = 8;
@@ -64,19 +65,19 @@ fn offer_refusal(near: Near, store_length: usize, read: u8, kind: u16) -> u8
     ensures { λ r. ⌜ r ≡ first (offerRulesOf near «store_length» read kind) ⌝ }
 {
     if store_length != STORE_SIZE {
-        return 28;
+        return refusals::STORE_SIZE;
     }
     if read != 0 {
         return read;
     }
     if kind == kinds::NO_KIND {
-        return 23;
+        return refusals::NOT_CARRIED;
     }
     if near.accepted == records::LAST_NUMBER {
-        return 25;
+        return refusals::RECORD_NUMBER;
     }
     if unacknowledged(near) >= ROWS {
-        return 24;
+        return refusals::WINDOW_FULL;
     }
     0
 }
@@ -151,21 +152,21 @@ fn send_refusal(near: Near, store: &[u8], i: u32, room: usize) -> u8
     ensures { λ r. ⌜ r ≡ first (sendRules near (now (store .entry)) i room) ⌝ }
 {
     if store.len() != STORE_SIZE {
-        return 28;
+        return refusals::STORE_SIZE;
     }
     if wire::no(wire::both(near.acknowledged <= i, i < near.accepted)) {
-        return 26;
+        return refusals::NOT_HELD;
     }
     let kind = records::kind_at(store, row_start(i));
     let load = kinds::load(kind);
     if kinds::is_unknown(load) {
-        return 20;
+        return refusals::RECORD_KIND;
     }
     if kinds::is_nothing(load) {
-        return 29;
+        return refusals::WRONG_DIRECTION;
     }
     if room < kinds::record_size(kind) {
-        return 16;
+        return pdu::refusals::NO_ROOM;
     }
     0
 }

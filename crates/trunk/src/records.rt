@@ -12,6 +12,7 @@ use crate::Checked;
 use crate::Head;
 use crate::Near;
 use crate::kinds;
+use crate::refusals;
 
 // Where the number stands in a head, and the head's width.
 const NUMBER_AT: usize = 1;
@@ -75,14 +76,14 @@ fn form_refusal(r: &[u8]) -> u8
     ensures { λ n. ⌜ n ≡ first (formRules (now (r .entry))) ⌝ }
 {
     if r.len() == 0 {
-        return 21;
+        return refusals::RECORD_LENGTH;
     }
     let kind = kind_at(r, 0);
     if kinds::is_unknown(kinds::load(kind)) {
-        return 20;
+        return refusals::RECORD_KIND;
     }
     if r.len() != kinds::record_size(kind) {
-        return 21;
+        return refusals::RECORD_LENGTH;
     }
     0
 }
@@ -97,10 +98,10 @@ fn pdu_refusal(r: &[u8]) -> u8
     }
     let head = head_of(r);
     if head.number == LAST_NUMBER {
-        return 25;
+        return refusals::RECORD_NUMBER;
     }
     if wrong_carried(r) {
-        return 22;
+        return refusals::RECORD_PDU;
     }
     0
 }
@@ -125,11 +126,11 @@ pub(crate) fn reply_refusal(near: Near, r: &[u8]) -> u8
         return n;
     }
     if wire::no(is_reply(r)) {
-        return 29;
+        return refusals::WRONG_DIRECTION;
     }
     let head = head_of(r);
     if near.accepted < head.number {
-        return 27;
+        return refusals::ABOVE_ACCEPTED;
     }
     0
 }
@@ -143,14 +144,14 @@ pub(crate) fn arrival_refusal(r: &[u8], reply_room: usize, room: usize) -> u8
         return form;
     }
     if is_reply(r) {
-        return 29;
+        return refusals::WRONG_DIRECTION;
     }
     let pdu = pdu_refusal(r);
     if pdu != 0 {
         return pdu;
     }
     if wire::either(reply_room < HEAD_SIZE, room < kinds::LONGEST_PDU) {
-        return 16;
+        return pdu::refusals::NO_ROOM;
     }
     0
 }

@@ -15,6 +15,7 @@ ghost use Rattle.pdu.specs.declared.Reading.the-variants.{Signal as aSignal};
 use crate::header;
 use pdu::Network;
 use pdu::Signal;
+use pdu::refusals;
 
 // The number of the first broken rule of the network header and of a body of n bytes, or 0.
 fn inner_refusal(s: Signal, n: usize) -> u8
@@ -33,10 +34,10 @@ fn record_refusal(s: Signal, n: usize) -> u8
     ensures { λ r. ⌜ r ≡ first (recordRules (aSignal s n)) ⌝ }
 {
     if pdu::rules::wrong_version(s.header.version) {
-        return 2;
+        return refusals::VERSION;
     }
     if pdu::ENCODING_KEPT - 1 < s.encoding {
-        return 10;
+        return refusals::ENCODING;
     }
     inner_refusal(s, n)
 }
@@ -50,7 +51,7 @@ pub(crate) fn refusal(s: Signal, n: usize, room: usize) -> u8
         return refused;
     }
     if room < pdu::rules::signal_size(n as u16) {
-        return 16;
+        return refusals::NO_ROOM;
     }
     0
 }

@@ -17,19 +17,20 @@ use pdu::Emission;
 use pdu::Entity;
 use pdu::Sync;
 use pdu::Transmitter;
+use pdu::refusals;
 
 // The number of the first rule of writing that is broken, or 0.
 pub(crate) fn refusal(t: Transmitter, room: usize) -> u8
     ensures { λ r. ⌜ r ≡ writingRefusal (aTransmitter t) room ⌝ }
 {
     if pdu::rules::wrong_version(t.header.version) {
-        return 2;
+        return refusals::VERSION;
     }
     if pdu::rules::wrong_sync(t.sync) {
-        return 9;
+        return refusals::MODULATION;
     }
     if room < pdu::TRANSMITTER_SIZE {
-        return 16;
+        return refusals::NO_ROOM;
     }
     0
 }

@@ -1,0 +1,44 @@
+// The numbers of the refusals of reading and writing (document 01, "The numbers").
+
+// Fewer than 12 bytes.
+pub const SHORT: u8 = 1;
+
+pub const VERSION: u8 = 2;
+
+// Type or family.
+pub const TYPE: u8 = 3;
+
+// The length field is not the slice's length, or too small for its type.
+pub const LENGTH: u8 = 4;
+
+// Category, input source, major, detail or system.
+pub const RADIO: u8 = 5;
+
+pub const MODULATION_LENGTH: u8 = 6;
+
+pub const PATTERN_LENGTH: u8 = 7;
+
+// The PDU is not 112 bytes, or not the filled size.
+pub const PDU_SIZE: u8 = 8;
+
+// Bytes 104 to 111 break their rules.
+pub const MODULATION: u8 = 9;
+
+// The encoding's class; in writing, its kept part.
+pub const ENCODING: u8 = 10;
+
+pub const TDL_TYPE: u8 = 11;
+
+pub const DATA_LENGTH: u8 = 12;
+
+// A field of the network header, the slot ID included.
+pub const NETWORK_HEADER: u8 = 13;
+
+// The body is not whole words.
+pub const BODY_SIZE: u8 = 14;
+
+// More words, or bytes, than a body may have.
+pub const BODY_LIMIT: u8 = 15;
+
+// A lent output is too short.
+pub const NO_ROOM: u8 = 16;

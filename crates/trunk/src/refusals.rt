@@ -1,0 +1,29 @@
+// The numbers of the trunk's own refusals (document 01, "The numbers").
+
+// No known kind.
+pub(crate) const RECORD_KIND: u8 = 20;
+
+// The record is empty, or not of its kind's length.
+pub(crate) const RECORD_LENGTH: u8 = 21;
+
+// The carried bytes are not a written PDU of that kind.
+pub(crate) const RECORD_PDU: u8 = 22;
+
+// A Signal of types 1 to 7.
+pub(crate) const NOT_CARRIED: u8 = 23;
+
+// Eight PDUs are unacknowledged.
+pub(crate) const WINDOW_FULL: u8 = 24;
+
+// All numbers are used, or a PDU record has the number that none gets.
+pub(crate) const RECORD_NUMBER: u8 = 25;
+
+pub(crate) const NOT_HELD: u8 = 26;
+
+// A reply above the accepted count.
+pub(crate) const ABOVE_ACCEPTED: u8 = 27;
+
+pub(crate) const STORE_SIZE: u8 = 28;
+
+// A reply where a PDU belongs, or the reverse.
+pub(crate) const WRONG_DIRECTION: u8 = 29;
