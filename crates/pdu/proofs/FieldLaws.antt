@@ -13,6 +13,7 @@ use Rattle.pdu.specs.Forms.{bodyIn}
 use Rattle.pdu.specs.Reading.{transmitterOf, signalOf, bodySize, bodyOf, reading}
 use Rattle.pdu.specs.Words.{wordsIn, wordAt}
 use Rattle.pdu.specs.Fields.{TransmitterFields, SignalFields, WordParts}
+use Rattle.pdu.specs.declared.Word.{Word}
 use Rattle.pdu.specs.declared.Word.the-variants.{Here}
 use Rattle.pdu.specs.declared.Transmitter.{Transmitter}
 use Rattle.pdu.specs.declared.Signal.{Signal}
@@ -48,7 +49,7 @@ signal-places d n body bits held =
     record {
       header =
           record { version = refl; exercise = refl; timestamp = refl; site = refl; application = refl; entity = refl; radio = refl };
-      encoding = ap (λ (v : ℕ). v % 2 ^ 14) (div-one (num 2 20 d));
+      encoding = ap (λ (v : ℕ). v % 2 ^ 14) (div-one _);
       rate = refl;
       samples = refl;
       network =
@@ -58,7 +59,7 @@ signal-places d n body bits held =
             tsec = refl;
             msec = refl;
             message-type = refl;
-            slot = ap (λ (v : ℕ). v % 2 ^ 17) (div-one (num 4 40 d));
+            slot = ap (λ (v : ℕ). v % 2 ^ 17) (div-one _);
             epoch = refl;
             time = refl;
           };
@@ -81,7 +82,8 @@ pub word-parts : (body : List ℕ) (i : ℕ) → WordParts body i
 unfolding wordAt
 word-parts body i =
     let v : ℕ = num 10 (6 + 10 * i) body in
+    let of-format : ℕ → Word = λ f. Here (f % 2 ^ 2) (v / 2 ^ 2 % 2 ^ 5) (v / 2 ^ 7 % 2 ^ 3) in
     record {
-      here = λ long. rw (lt-ltb i (wordsIn (length body)) (omega arith)) (ap (λ (f : ℕ). Here (f % 2 ^ 2) (v / 2 ^ 2 % 2 ^ 5) (v / 2 ^ 7 % 2 ^ 3)) (div-one v));
+      here = λ long. rw (lt-ltb i (wordsIn (length body)) (omega arith)) (ap of-format (div-one v));
       absent = λ short. rw (le-ltb i (wordsIn (length body)) (omega arith));
     }

@@ -136,8 +136,8 @@ signal-holds d (long, (v, ((type, family), ((same, least), (class, (tdl, ((whole
     let bits : num 2 28 d ≡ dataBits n = omega arith in
     let part : num 2 20 d / 2 ^ 14 % 2 ^ 2 ≡ 1 = omega arith in
     let full : length d ≡ signalSize n = omega arith in
-    let below : num 2 20 d / 1 % 2 ^ 14 < 16384 = mod-lt (num 2 20 d / 1) (omega arith) in
-    let small : num 2 20 d / 1 % 2 ^ 14 ≤ 16383 = omega arith in
+    let below : num 2 20 d / 1 % 2 ^ 14 < Numbers.encodingKept = mod-lt (num 2 20 d / 1) (omega arith) in
+    let small : num 2 20 d / 1 % 2 ^ 14 ≤ Numbers.encodingKept - 1 = omega arith in
     record {
       size = full;
       fixed =

@@ -73,10 +73,14 @@ pub const NO_SECURITY: u8 = 255;
 
 pub const LAST_MESSAGE_TYPE: u8 = 7;
 
-// The slot ID: a slot in its low 17 bits, an epoch in its high 8.
+// The slot ID: a slot in its low 17 bits, an epoch in its high 8, 7 bits of padding between them.
 pub const SLOTS: u32 = 131072;
 
+pub const SLOT_PADDINGS: u32 = 128;
+
 pub const EPOCH_UNIT: u32 = 16777216;
+
+pub const EPOCHS: u32 = 256;
 
 pub const LAST_SLOT: u32 = 98303;
 
@@ -97,6 +101,19 @@ pub const WORD_BYTES: usize = 10;
 pub const MOST_WORDS: usize = 12;
 
 pub const MOST_BYTES: usize = 256;
+
+// The last two bytes of a word start here; they hold the format in 2 bits, the label in 5 above it and the sublabel in 3 above that.
+pub const WORD_LOW: usize = 8;
+
+pub const FORMATS: u16 = 4;
+
+pub const LABEL_UNIT: u16 = 4;
+
+pub const LABELS: u16 = 32;
+
+pub const SUBLABEL_UNIT: u16 = 128;
+
+pub const SUBLABELS: u16 = 8;
 
 // Bytes 0 to 19, which both PDUs share; type, family, length and padding are not kept.
 pub struct Header {

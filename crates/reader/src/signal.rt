@@ -75,7 +75,7 @@ fn read_network(d: &[u8]) -> Network
         msec: wire::u8_at(d, 36),
         message_type: wire::u8_at(d, 37),
         slot: slot_id % pdu::SLOTS,
-        epoch: (slot_id / pdu::EPOCH_UNIT % 256) as u8,
+        epoch: (slot_id / pdu::EPOCH_UNIT % pdu::EPOCHS) as u8,
         time: wire::u64_at(d, 44),
     }
 }
@@ -127,7 +127,7 @@ fn is_slot_blank(d: &[u8]) -> bool
 {
     wire::both(
         wire::u16_at(d, 38) == 0,
-        wire::u32_at(d, 40) / pdu::SLOTS % 128 == 0,
+        wire::u32_at(d, 40) / pdu::SLOTS % pdu::SLOT_PADDINGS == 0,
     )
 }
 

@@ -25,11 +25,11 @@ pub fn at(body: &[u8], i: usize) -> Word
     ensures { λ r. ⌜ r ≡ wordAt (now (body .entry)) i ⌝ }
 {
     if i < count(body) {
-        let low = wire::u16_at(body, pdu::BODY_HEADER + pdu::WORD_BYTES * i + 8);
+        let low = wire::u16_at(body, pdu::BODY_HEADER + pdu::WORD_BYTES * i + pdu::WORD_LOW);
         Word::Here {
-            format: (low % 4) as u8,
-            label: (low / 4 % 32) as u8,
-            sublabel: (low / 128 % 8) as u8,
+            format: (low % pdu::FORMATS) as u8,
+            label: (low / pdu::LABEL_UNIT % pdu::LABELS) as u8,
+            sublabel: (low / pdu::SUBLABEL_UNIT % pdu::SUBLABELS) as u8,
         }
     } else {
         Word::Absent
