@@ -3,10 +3,10 @@
 -- gives. By the verdicts on the two lists of rules.
 -- Assumes nothing.
 use Prim.Native.Nat.{ℕ}
-use mathlib.Core.Path.{_≡_, refl, sym, ap, subst, _∙_}
+use mathlib.Core.Path.{_≡_, refl, sym, ap, ap₂, subst, _∙_}
 use mathlib.Core.Logic.{_↔_, _≢_, Iff·trans}
 use mathlib.Core.Bool.{Bool, true, false}
-use mathlib.Core.List.{List}
+use mathlib.Core.List.{List, _∷_}
 use lib.Dec.{eqb}
 use borrow.Author.Tests.{eqb-true, eqb-false, eq-eqb, ne-eqb}
 use native.Mathlib.Omega.{arith}
@@ -15,6 +15,7 @@ use Rattle.wire.specs.Rules.{Rule, Met, Verdict}
 use Rattle.pdu.specs.Numbers
 use Rattle.pdu.specs.Forms.{sizeOf}
 use Rattle.pdu.specs.Reading.{transmitterOf, signalOf, bodySize, saysTransmitter, content, refusal, reading, numberOf}
+use Rattle.pdu.specs.Reading.{valuesHeld, readingSays, readSays}
 use Rattle.pdu.specs.Writing.{writingRules, writingRefusal, written}
 use Rattle.pdu.specs.Plain.{plainTransmitter, plainSignal, plainTransmitterWriting, plainSignalWriting, TakenExactly, WrittenExactly}
 use Rattle.pdu.specs.declared.Transmitter.{Transmitter}
@@ -90,6 +91,16 @@ refusal-read d = by (eqb (refusal d) 0) refl
         let none = eqb-true _ _ t in
         ap numberOf (reading-taken d none) ∙ no-number (content d) (content-holds d) ∙ sym none
     by false t = ap numberOf (reading-refused d (eqb-false _ _ t))
+
+-- and what the answer says is that number, or 0 and what the datagram holds
+pub reading-says : (d : List ℕ) → readingSays (reading d) ≡ readSays d
+reading-says d = by (eqb (refusal d) 0) refl
+  where
+    by : (b : Bool) → eqb (refusal d) 0 ≡ b → readingSays (reading d) ≡ readSays d
+    by true t =
+        let none = eqb-true _ _ t in
+        ap₂ _∷_ (refusal-read d ∙ none) (ap valuesHeld (reading-taken d none)) ∙ rw t refl
+    by false t = ap readingSays (reading-refused d (eqb-false _ _ t)) ∙ rw t refl
 
 -- ---- which of the two
 

@@ -3,16 +3,18 @@
 -- Assumes nothing.
 use Prim.Native.Nat.{ℕ, _*_, _+_, _/_, _%_, _^_}
 use mathlib.Core.Path.{_≡_, refl, sym, ap, subst, _∙_}
+use mathlib.Core.Bool.{Bool, true, false}
 use mathlib.Core.List.{List}
 use lib.ListN.{length}
-use borrow.Author.Tests.{lt-ltb, le-ltb}
+use lib.Dec.{ltb}
+use borrow.Author.Tests.{lt-ltb, le-ltb, ltb-true, ltb-false}
 use native.Mathlib.Nat.{div-one}
 use native.Mathlib.Omega.{arith}
 use Rattle.wire.specs.Bytes.{num}
 use Rattle.pdu.specs.Forms.{bodyIn}
 use Rattle.pdu.specs.Reading.{transmitterOf, signalOf, bodySize, bodyOf, reading}
-use Rattle.pdu.specs.Words.{wordsIn, wordAt}
-use Rattle.pdu.specs.Fields.{TransmitterFields, SignalFields, WordParts}
+use Rattle.pdu.specs.Words.{wordsIn, wordAt, wordSays}
+use Rattle.pdu.specs.Fields.{TransmitterFields, SignalFields, WordParts, plainWord}
 use Rattle.pdu.specs.declared.Word.{Word}
 use Rattle.pdu.specs.declared.Word.the-variants.{Here}
 use Rattle.pdu.specs.declared.Transmitter.{Transmitter}
@@ -87,3 +89,10 @@ word-parts body i =
       here = λ long. rw (lt-ltb i (wordsIn (length body)) (omega arith)) (ap of-format (div-one v));
       absent = λ short. rw (le-ltb i (wordsIn (length body)) (omega arith));
     }
+
+pub word-says : (body : List ℕ) (i : ℕ) → wordSays (wordAt body i) ≡ plainWord body i
+word-says body i = by (ltb (length body) (16 + 10 * i)) refl
+  where
+    by : (b : Bool) → ltb (length body) (16 + 10 * i) ≡ b → wordSays (wordAt body i) ≡ plainWord body i
+    by true t = ap wordSays (word-parts body i .absent (ltb-true _ _ t)) ∙ rw t refl
+    by false t = ap wordSays (word-parts body i .here (ltb-false _ _ t)) ∙ rw t refl

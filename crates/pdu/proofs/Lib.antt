@@ -5,4 +5,5 @@ pub mod Answers
 pub mod Taken
 pub mod FieldLaws
 pub mod RoundTrip
+pub mod PlaceLaws
 pub mod ReadLaws

@@ -120,7 +120,7 @@ written-taken r body fit rules =
       rules = rules;
     }
 
-bytes-form : (r : Reading) (body : List ℕ) → Bytes (bytesOf r body)
+pub bytes-form : (r : Reading) (body : List ℕ) → Bytes (bytesOf r body)
 unfolding bytesOf
 bytes-form r body = bytes-fill (tableOf r) (valuesOf r body)
 

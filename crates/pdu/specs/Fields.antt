@@ -2,8 +2,10 @@
 -- `num w o d` is the number in the w bytes of d from byte o on.
 use Prim.Native.Nat.{ℕ, _+_, _*_, _/_, _%_, _^_, _≤_, _<_}
 use mathlib.Core.Path.{_≡_}
-use mathlib.Core.List.{List}
+use mathlib.Core.Bool.{cond}
+use mathlib.Core.List.{List, [], _∷_}
 use lib.ListN.{length, take, drop}
+use lib.Dec.{ltb}
 use Rattle.wire.specs.Bytes.{num}
 use Rattle.pdu.specs.Words.{wordAt}
 use Rattle.pdu.specs.declared.Word.the-variants.{Absent, Here}
@@ -94,3 +96,9 @@ pub record WordParts (body : List ℕ) (i : ℕ) : Type 0 where
       → wordAt body i
       ≡ Here (num 10 (6 + 10 * i) body % 2 ^ 2) (num 10 (6 + 10 * i) body / 2 ^ 2 % 2 ^ 5) (num 10 (6 + 10 * i) body / 2 ^ 7 % 2 ^ 3)
   pub absent : length body < 16 + 10 * i → wordAt body i ≡ Absent
+
+-- the same as what is said of word i: its three parts, or nothing where the body ends before it does
+abbrev pub plainWord : List ℕ → ℕ → List ℕ
+plainWord body i =
+    let word = num 10 (6 + 10 * i) body in
+    cond (ltb (length body) (16 + 10 * i)) [] (word % 2 ^ 2 ∷ word / 2 ^ 2 % 2 ^ 5 ∷ word / 2 ^ 7 % 2 ^ 3 ∷ [])

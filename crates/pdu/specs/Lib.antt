@@ -11,3 +11,4 @@ pub mod Plain
 pub mod Fits
 pub mod RoundTrips
 pub mod Fields
+pub mod Places

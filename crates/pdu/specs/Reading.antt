@@ -5,11 +5,11 @@ use mathlib.Core.List.{List, [], _∷_, _++_}
 use lib.ListN.{length}
 use lib.Dec.{eqb, ltb}
 use Rattle.wire.specs.Bytes.{num}
-use Rattle.wire.specs.First.{Refusal, _given-when_, first}
+use Rattle.wire.specs.First.{Refusal, _given-when_, first, told}
 use Rattle.wire.specs.Table.{read}
 use Rattle.pdu.specs.Numbers
 use Rattle.pdu.specs.Tables.{filled, headerTable, transmitterTable, signalTable}
-use Rattle.pdu.specs.Records.{headerFrom, transmitterFrom, signalFrom}
+use Rattle.pdu.specs.Records.{headerFrom, transmitterFrom, transmitterValues, signalFrom, signalValues}
 use Rattle.pdu.specs.Rules.{wrongVersion, innerRules}
 use Rattle.pdu.specs.Forms.{bodyIn}
 use Rattle.pdu.specs.declared.Header.{Header}
@@ -126,3 +126,17 @@ abbrev pub numberOf : Reading → ℕ
 numberOf (Refused n) = n
 numberOf (aTransmitter t) = 0
 numberOf (aSignal s n) = 0
+
+-- the values of each answer: the fields in byte order, and last the size of a Signal's body
+abbrev pub valuesHeld : Reading → List ℕ
+valuesHeld (Refused n) = []
+valuesHeld (aTransmitter t) = transmitterValues t
+valuesHeld (aSignal s n) = signalValues s n
+
+-- document 01's number and values of each answer of reading
+abbrev pub readingSays : Reading → List ℕ
+readingSays r = numberOf r ∷ valuesHeld r
+
+-- what reading says in document 01's numbers: the refusal's alone, or 0 and what the datagram holds
+abbrev pub readSays : List ℕ → List ℕ
+readSays d = told (refusal d) (valuesHeld (content d))

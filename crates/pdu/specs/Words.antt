@@ -1,7 +1,7 @@
 -- The words of a type 0 body (01, "Type 0 body" and "A word is an 80-bit number").
 use Prim.Native.Nat.{ℕ, _+_, _-_, _*_, _/_}
 use mathlib.Core.Bool.{Bool, cond}
-use mathlib.Core.List.{List}
+use mathlib.Core.List.{List, [], _∷_}
 use lib.ListN.{length, getD}
 use lib.Dec.{eqb, ltb}
 use Rattle.wire.specs.Table.{read}
@@ -25,3 +25,8 @@ wordFrom v = Here (getD v 3 0) (getD v 2 0) (getD v 1 0)
 -- word i of a body, or Absent where the body has no such word
 unfoldable pub wordAt : List ℕ → ℕ → Word
 wordAt body i = cond (ltb i (wordsIn (length body))) (wordFrom (read (bodyHeader + wordBytes * i) wordTable body)) Absent
+
+-- the values of each answer about a word: format, label and sublabel (01 has no number for a word that is not there)
+abbrev pub wordSays : Word → List ℕ
+wordSays Absent = []
+wordSays (Here format label sublabel) = format ∷ label ∷ sublabel ∷ []

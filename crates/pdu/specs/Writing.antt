@@ -9,7 +9,7 @@ use Rattle.wire.specs.Table.{clear, allBlank}
 use Rattle.pdu.specs.Numbers
 use Rattle.pdu.specs.Rules.{wrongVersion, innerRules}
 use Rattle.pdu.specs.Forms.{tableOf, bytesOf, sizeOf}
-use Rattle.pdu.specs.Reading.{content, bodyOf, formRules, refusal}
+use Rattle.pdu.specs.Reading.{content, bodyOf, formRules, refusal, readingSays}
 use Rattle.pdu.specs.declared.Reading.{Reading}
 use Rattle.pdu.specs.declared.Reading.the-variants.{Refused as NotRead, Transmitter, Signal}
 use Rattle.pdu.specs.declared.Written.{Written}
@@ -73,3 +73,12 @@ inWrittenForm d = eqb (refusal d) 0 && allBlank 0 (tableOf (content d)) d
 -- what a datagram holds where it is in written form
 unfoldable pub carried : List ℕ → Carried
 carried d = cond (inWrittenForm d) (Pdu (content d)) Other
+
+-- the values of each answer about carried bytes: those of a PDU in written form (22, where there is none, is the trunk's number)
+abbrev pub carriedSays : Carried → List ℕ
+carriedSays Other = []
+carriedSays (Pdu r) = readingSays r
+
+-- what is said of carried bytes
+abbrev pub carriedSaid : List ℕ → List ℕ
+carriedSaid d = cond (inWrittenForm d) (readingSays (content d)) []

@@ -2,8 +2,8 @@
 // Every public call takes every input and is promised down to each bit of its answer.
 ghost use mathlib.Core.Path.{_≡_};
 ghost use Rattle.pdu.specs.Forms.{sizeOf};
-ghost use Rattle.pdu.specs.Reading.{refusal, content, reading, numberOf};
-ghost use Rattle.pdu.specs.Writing.{inWrittenForm, carried};
+ghost use Rattle.pdu.specs.Reading.{refusal, content, reading, numberOf, readingSays, readSays};
+ghost use Rattle.pdu.specs.Writing.{inWrittenForm, carried, carriedSays, carriedSaid};
 use pdu::Carried;
 use pdu::Reading;
 
@@ -43,7 +43,8 @@ fn content(d: &[u8]) -> Reading
 
 // Reads a datagram: takes it exactly when it meets its layout and every rule of document 01, else gives the first refusal that applies.
 pub fn read(datagram: &[u8]) -> Reading
-    ensures { λ r. ⌜ r ≡ reading (now (datagram .entry)) ⌝ }
+    ensures answer { λ r. ⌜ r ≡ reading (now (datagram .entry)) ⌝ }
+    ensures says { λ r. ⌜ readingSays r ≡ readSays (now (datagram .entry)) ⌝ }
 {
     let n = reading_refusal(datagram);
     if n != 0 {
@@ -69,7 +70,8 @@ pub fn is_written(datagram: &[u8]) -> bool
 
 // What bytes hold that should be in written form.
 pub fn read_carried(datagram: &[u8]) -> Carried
-    ensures { λ r. ⌜ r ≡ carried (now (datagram .entry)) ⌝ }
+    ensures answer { λ r. ⌜ r ≡ carried (now (datagram .entry)) ⌝ }
+    ensures says { λ r. ⌜ carriedSays r ≡ carriedSaid (now (datagram .entry)) ⌝ }
 {
     if wire::no(is_written(datagram)) {
         return Carried::Other;

@@ -2,7 +2,8 @@
 ghost use mathlib.Core.Path.{_≡_};
 ghost use lib.ListN.{length};
 ghost use Rattle.wire.specs.First.{first};
-ghost use Rattle.pdu.specs.Words.{wordsIn, wordAt};
+ghost use Rattle.pdu.specs.Words.{wordsIn, wordAt, wordSays};
+ghost use Rattle.pdu.specs.Fields.{plainWord};
 ghost use Rattle.pdu.specs.Rules.{bodyRules};
 use pdu::Word;
 
@@ -22,7 +23,8 @@ pub fn count(body: &[u8]) -> usize
 
 // The format, label and sublabel of word i, or Absent where the body has no word i.
 pub fn at(body: &[u8], i: usize) -> Word
-    ensures { λ r. ⌜ r ≡ wordAt (now (body .entry)) i ⌝ }
+    ensures answer { λ r. ⌜ r ≡ wordAt (now (body .entry)) i ⌝ }
+    ensures says { λ r. ⌜ wordSays r ≡ plainWord (now (body .entry)) i ⌝ }
 {
     if i < count(body) {
         let low = wire::u16_at(body, pdu::BODY_HEADER + pdu::WORD_BYTES * i + pdu::WORD_LOW);

@@ -5,3 +5,4 @@ pub mod FirstLaws
 pub mod RuleLaws
 pub mod FitLaws
 pub mod PartLaws
+pub mod ClearLaws

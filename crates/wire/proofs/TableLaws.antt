@@ -141,7 +141,7 @@ parts-fill w ps t s =
     let b = both-true (eqb (2 ^ bits ps) (256 ^ w)) (soundParts ps) (a .0) in
     (eqb-true _ _ (b .0), b .1, a .1)
 
-sound-rest : (s : Slot) (t : List Slot) → sound (s ∷ t) ≡ true → sound t ≡ true
+pub sound-rest : (s : Slot) (t : List Slot) → sound (s ∷ t) ≡ true → sound t ≡ true
 sound-rest (kept w) t e = e
 sound-rest (padding w) t e = e
 sound-rest (one w u) t e = both-true (ltb u (256 ^ w)) (sound t) e .1
@@ -197,7 +197,7 @@ number-values (padding w) v e = refl
 number-values (one w u) v e = sym (eqb-true v u e)
 number-values (parts w ps) v e = join-split ps v e
 
-tidy-blank : (s : Slot) (t : List Slot) (v : ℕ) → sound (s ∷ t) ≡ true → v < 256 ^ wide s → blank s v ≡ true → tidy s v ≡ v
+pub tidy-blank : (s : Slot) (t : List Slot) (v : ℕ) → sound (s ∷ t) ≡ true → v < 256 ^ wide s → blank s v ≡ true → tidy s v ≡ v
 tidy-blank (kept w) t v e h b = refl
 tidy-blank (padding w) t v e h b = sym (eqb-true v 0 b)
 tidy-blank (one w u) t v e h b = refl

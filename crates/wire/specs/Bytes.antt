@@ -1,8 +1,8 @@
 -- Big-endian numbers in a list of bytes, and writing over a part of a buffer.
-use Prim.Native.Nat.{ℕ, zero, suc, _+_, _*_, _/_, _%_, _<_}
+use Prim.Native.Nat.{ℕ, zero, suc, _+_, _-_, _*_, _/_, _%_, _<_}
 use mathlib.Core.Bool.{Bool, true, _&&_}
 use mathlib.Core.List.{List, [], _∷_, _++_}
-use lib.ListN.{getD}
+use lib.ListN.{getD, take, drop}
 use lib.Dec.{eqb}
 use lib.Seq.{sets}
 
@@ -24,6 +24,15 @@ row w (v ∷ vs) = big w v ++ row w vs
 -- buffer with bytes written over it from place at on; what would pass its end is left out
 abbrev pub splice : ℕ → List ℕ → List ℕ → List ℕ
 splice at bytes buffer = sets buffer at bytes
+
+-- bytes a to b of d, b left out
+abbrev pub span : ℕ → ℕ → List ℕ → List ℕ
+span a b d = take (b - a) (drop a d)
+
+-- pieces end to end
+abbrev pub joined : List (List ℕ) → List ℕ
+joined [] = []
+joined (p ∷ ps) = p ++ joined ps
 
 -- whether every byte is zero
 abbrev pub allZero : List ℕ → Bool

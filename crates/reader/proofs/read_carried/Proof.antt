@@ -4,6 +4,7 @@ use mathlib.Core.Path.{_≡_, sym, ap, _∙_}
 use mathlib.Core.Bool.{true, false, not}
 use borrow.Author.Tests.{not-true, not-false}
 use denote.Ref.{now}
+use Rattle.pdu.specs.Reading.{readingSays}
 use Rattle.pdu.specs.Writing.{inWrittenForm, carried}
 use Rattle.pdu.specs.declared.Carried.the-variants.{Pdu}
 use Rattle.pdu.proofs.ReadLaws.{written-taken}
@@ -29,14 +30,17 @@ unfolding carried
 returns c =
     let given = c .before .before .before .before .args in
     let other : inWrittenForm (now (given .datagram)) ≡ false = not-true _ (sym (tested (c .before)) ∙ c .if1 .taken) in
-    rw other
+    (rw other, rw other)
 
 content-requires : tie.Need-content-requires
 content-requires c κs = written-taken _ (in-form c)
 
 returns-2 : tie.Need-returns-2
 unfolding carried
-returns-2 c = rw (in-form (c .before)) (ap Pdu (c .content .ensures))
+returns-2 c =
+    let yes = in-form (c .before) in
+    let held = c .content .ensures in
+    (rw yes (ap Pdu held), rw yes (ap readingSays held))
 
 pub read-carried-spec : {M : Type 1} → statement M
 read-carried-spec =

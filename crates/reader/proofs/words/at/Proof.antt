@@ -1,7 +1,8 @@
 -- `words::at` meets its contract: format, label and sublabel lie in the last two of a word's bytes (`word-low`).
 -- Assumes nothing.
-use Prim.Native.Nat.{_+_, _*_}
-use mathlib.Core.Path.{_≡_}
+use Prim.Native.Nat.{ℕ, _+_, _*_}
+use mathlib.Core.Path.{_≡_, ap, _∙_}
+use mathlib.Core.List.{List}
 use mathlib.Core.Bool.{true, false}
 use lib.Dec.{ltb}
 use lib.ListN.{length}
@@ -9,11 +10,18 @@ use denote.Ref.{now}
 use native.Mathlib.Omega.{arith}
 use borrow.Author.Tests.{lt-ltb, le-ltb}
 use Rattle.pdu.specs.Numbers.{bodyHeader, wordBytes}
-use Rattle.pdu.specs.Words.{wordsIn, wordAt}
+use Rattle.pdu.specs.Words.{wordsIn, wordAt, wordSays}
+use Rattle.pdu.specs.Fields.{plainWord}
+use Rattle.pdu.specs.declared.Word.{Word}
 use Rattle.pdu.proofs.WordLaws.{word-low}
+use Rattle.pdu.proofs.FieldLaws.{word-says}
 use borrow.Author.Needs.{needs}
 use Rattle.reader.proofs.words.at.Statement.{statement}
 use Rattle.reader.proofs.words.at.Tie as tie
+
+-- an answer that is the right one says what it should
+says : (body : List ℕ) (i : ℕ) {r : Word} → r ≡ wordAt body i → (r ≡ wordAt body i) × (wordSays r ≡ plainWord body i)
+says body i e = (e, ap wordSays e ∙ word-says body i)
 
 count-requires : tie.Need-count-requires
 count-requires c κs = search needs
@@ -45,7 +53,7 @@ returns c =
     let given = c .before .before .before .before .args in
     let words = wordsIn (length (now (given .body))) in
     let here : ltb (given .i) words ≡ true = lt-ltb (given .i) words (omega arith) in
-    rw (here, word-low (bodyHeader + wordBytes * given .i) (now (given .body)), c .u16-at .ensures)
+    says (now (given .body)) (given .i) (rw (here, word-low (bodyHeader + wordBytes * given .i) (now (given .body)), c .u16-at .ensures))
 
 returns-2 : tie.Need-returns-2
 unfolding wordAt
@@ -53,7 +61,7 @@ returns-2 c =
     let given = c .before .before .before .args in
     let words = wordsIn (length (now (given .body))) in
     let past : ltb (given .i) words ≡ false = le-ltb (given .i) words (omega arith) in
-    rw past
+    says (now (given .body)) (given .i) (rw past)
 
 pub at-spec : {M : Type 1} → statement M
 at-spec =

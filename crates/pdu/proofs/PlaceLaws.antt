@@ -1,0 +1,203 @@
+-- Padding, byte by byte (`padding-places`): clearing a table gives runs of bytes as they stand with the padding between them, and for the two
+-- tables these compute to the places that document 01 names. What is written reads back, so it holds each field at its place, every fixed value and
+-- zero padding (`transmitter-bytes`, `signal-bytes`); and the output holds it from its start, or is as it was (`output-exactly`).
+-- Assumes nothing.
+use Prim.Native.Nat.{ℕ, zero, suc, _+_, _-_, _*_, _/_, _%_, _^_}
+use mathlib.Core.Path.{_≡_, refl, sym, ap, subst, _∙_}
+use mathlib.Core.Logic.{_≢_}
+use mathlib.Core.Bool.{Bool, true, false}
+use mathlib.Core.List.{List, [], _∷_, _++_}
+use lib.ListN.{length, getD, take, drop, replicate}
+use lib.Dec.{eqb}
+use native.Mathlib.Nat.{div-one}
+use native.Mathlib.Omega.{arith}
+use Rattle.wire.specs.Bytes.{num, big, span, joined, Bytes}
+use Rattle.wire.specs.Table.{keep, skip, clean, clear}
+use Rattle.wire.proofs.ByteLaws.{big-num, big-zero}
+use Rattle.wire.proofs.ClearLaws.{pieces, clear-pieces}
+use Rattle.pdu.specs.Tables.{fillOf}
+use Rattle.pdu.specs.Forms.{tableOf, bytesOf, sizeOf, bodyIn}
+use Rattle.pdu.specs.Reading.{signalOf, bodySize, content, bodyOf, refusal}
+use Rattle.pdu.specs.Writing.{writingRefusal, written, outputAfter, writtenForm, paddingZero}
+use Rattle.pdu.specs.Plain.{FilledTo}
+use Rattle.pdu.specs.Fields.{SignalFields}
+use Rattle.pdu.specs.Places.{plainTransmitterZero, dataEnd, plainSignalZero, PaddingPlaces, TransmitterBytes, SignalBytes, OutputExactly}
+use Rattle.pdu.specs.Fits.{FitsTransmitter, FitsSignal}
+use Rattle.pdu.specs.RoundTrips.{bodyGiven, ReadsBack}
+use Rattle.pdu.specs.declared.Transmitter.{Transmitter}
+use Rattle.pdu.specs.declared.Signal.{Signal}
+use Rattle.pdu.specs.declared.Reading.{Reading}
+use Rattle.pdu.specs.declared.Reading.the-variants.{Refused, Transmitter as aTransmitter, Signal as aSignal}
+use Rattle.pdu.specs.declared.Written.the-variants.{Refused as NotWritten, Size}
+use Rattle.pdu.proofs.Agreement.{content-transmitter, content-signal}
+use Rattle.pdu.proofs.Answers.{Holds, reading-taken, reads-as, taken-exactly-when}
+use Rattle.pdu.proofs.Taken.{Taken, taken, sound-form, width-form}
+use Rattle.pdu.proofs.FieldLaws.{transmitter-fields, signal-fields}
+use Rattle.pdu.proofs.RoundTrip.{written-form-back, length-form, bytes-form, reads-back}
+
+-- ---- padding
+
+-- the slot ID with its padding zero: of byte 41 the lowest bit is left
+slot-left : List ℕ → List ℕ
+slot-left d = getD d 40 0 ∷ getD d 41 0 % 2 ∷ getD d 42 0 ∷ getD d 43 0 ∷ []
+
+slot-bytes : (d : List ℕ) → Bytes d → big 4 (clean (keep 8 ∷ skip 7 ∷ keep 17 ∷ []) (num 4 40 d)) ≡ slot-left d
+unfolding slot-left
+slot-bytes d b =
+    let v : ℕ = num 4 40 d in
+    let high : v / 2 ^ 24 % 2 ^ 8 ≡ getD d 40 0 = omega (arith, b 40, b 41, b 42, b 43) in
+    let low : v % 2 ^ 17 ≡ getD d 41 0 % 2 * 65536 + getD d 42 0 * 256 + getD d 43 0 = omega (arith, b 40, b 41, b 42, b 43) in
+    let same : clean (keep 8 ∷ skip 7 ∷ keep 17 ∷ []) v ≡ num 4 0 (slot-left d) = rw (high, div-one v, low) (omega arith) in
+    ap (big 4) same ∙ big-num 4 0 (slot-left d) (bytes d b) (omega arith)
+  where
+    bytes : (d : List ℕ) → Bytes d → Bytes (getD d 40 0 ∷ getD d 41 0 % 2 ∷ getD d 42 0 ∷ getD d 43 0 ∷ [])
+    bytes d b zero = b 40
+    bytes d b (suc zero) = omega arith
+    bytes d b (suc (suc zero)) = b 42
+    bytes d b (suc (suc (suc zero))) = b 43
+    bytes d b (suc (suc (suc (suc i)))) = omega arith
+
+-- a taken datagram of a form has the form's size, and its padding is that of the form's table
+form-padding : (d : List ℕ) (r : Reading) → Bytes d → refusal d ≡ 0 → content d ≡ r
+    → (length d ≡ sizeOf r) × (paddingZero d ≡ joined (pieces 0 0 (tableOf r) d))
+unfolding paddingZero
+form-padding d r b e holds =
+    let h : Taken d r (bodyOf d) = subst (λ (q : Reading). Taken d q (bodyOf d)) holds (taken d e) in (
+      h .size,
+      ap (λ (q : Reading). clear 0 (tableOf q) d) holds
+          ∙ clear-pieces (tableOf r) 0 0 d (sound-form r (h .rules)) b (omega (arith, h .size, width-form r)),
+    )
+
+transmitter-padding : (d : List ℕ) → Bytes d → refusal d ≡ 0 → num 1 2 d ≡ 25 → paddingZero d ≡ joined (plainTransmitterZero d)
+transmitter-padding d b e type = form-padding d _ b e (content-transmitter d type) .1
+
+signal-padding : (d : List ℕ) → Bytes d → refusal d ≡ 0 → num 1 2 d ≡ 26 → paddingZero d ≡ joined (plainSignalZero d)
+unfolding slot-left
+signal-padding d b e type =
+    let n : ℕ = bodySize d in
+    let other : num 1 2 d ≢ 25 = λ z. omega arith in
+    let holds = content-signal d other in
+    let (size, same) = form-padding d _ b e holds in
+    let (long, (v, (known, (field, (class, (tdl, ((whole, enough), rest))))))) =
+    taken-exactly-when d .signal-taken .0 (signalOf d, n, reading-taken d e ∙ holds) in
+    let counted : 8 + n ≡ dataEnd d - 44 = omega arith in
+    let left : fillOf n ≡ length d - dataEnd d = omega arith in
+    let blank : big (fillOf n) 0 ≡ replicate (length d - dataEnd d) 0 = big-zero (fillOf n) ∙ ap (λ (k : ℕ). replicate k 0) left in
+    same
+    ∙ (λ i.
+    joined
+    (span 0 10 d
+    ∷ (0 ∷ 0 ∷ [])
+    ∷ span 12 38 d
+    ∷ (0 ∷ 0 ∷ [])
+    ∷ slot-bytes d b i
+    ∷ take (counted i) (drop 44 d)
+    ∷ blank i
+    ∷ []))
+
+-- of every taken datagram
+pub padding-places : (d : List ℕ) → Bytes d → refusal d ≡ 0 → PaddingPlaces d
+padding-places d b e =
+    record { transmitter = transmitter-padding d b e; signal = signal-padding d b e }
+
+-- ---- what is written
+
+-- a form's bytes with the body that a writing of it is given
+given : (r : Reading) (body : List ℕ) → bytesOf r (bodyGiven r body) ≡ bytesOf r body
+unfolding bytesOf
+given (Refused n) body = refl
+given (aTransmitter t) body = refl
+given (aSignal s n) body = refl
+
+-- what was written, and reads back, is its own form with padding zero
+own-form : (r : Reading) (body : List ℕ) → Holds r → ReadsBack r body → (refusal (bytesOf r body) ≡ 0) × (paddingZero (bytesOf r body) ≡ bytesOf r body)
+unfolding writtenForm
+own-form r body h back =
+    let z : List ℕ = bytesOf r body in
+    let (none, holds) = reads-as z r h (back .reads) in (
+      none,
+      sym (written-form-back z none)
+          ∙ ap (λ (q : Reading). bytesOf q (bodyIn q z)) holds
+          ∙ ap (bytesOf r) (back .same-body)
+          ∙ given r body,
+    )
+
+pub transmitter-bytes : (t : Transmitter) (room : ℕ)
+    → FitsTransmitter t
+    → writingRefusal (aTransmitter t) room ≡ 0
+    → TransmitterBytes t (bytesOf (aTransmitter t) [])
+transmitter-bytes t room f e =
+    let z : List ℕ = bytesOf (aTransmitter t) [] in
+    let back = reads-back (aTransmitter t) [] room f (λ i. omega arith) refl e in
+    let (none, own) = own-form (aTransmitter t) [] tt back in
+    let (long, (v, ((type, family), ((field, least), (fixed, (modulation, (pattern, (size, sync)))))))) =
+    taken-exactly-when z .transmitter-taken .0 (t, back .reads) in
+    record {
+      size = size;
+      type = type;
+      family = family;
+      length-field = field ∙ size;
+      fields = transmitter-fields z t (back .reads);
+      fixed = fixed;
+      modulation-length = modulation;
+      pattern-length = pattern;
+      padding = sym own ∙ padding-places z (bytes-form (aTransmitter t) []) none .transmitter type;
+    }
+
+pub signal-bytes : (s : Signal) (body : List ℕ) (room : ℕ)
+    → FitsSignal s
+    → Bytes body
+    → writingRefusal (aSignal s (length body)) room ≡ 0
+    → SignalBytes s body (bytesOf (aSignal s (length body)) body)
+signal-bytes s body room f b e =
+    let n : ℕ = length body in
+    let z : List ℕ = bytesOf (aSignal s n) body in
+    let back = reads-back (aSignal s n) body room f b refl e in
+    let (none, own) = own-form (aSignal s n) body tt back in
+    let (long, (v, ((type, family), ((field, least), (class, (tdl, ((whole, enough), (size, inner)))))))) =
+    taken-exactly-when z .signal-taken .0 (s, n, back .reads) in
+    let fields = signal-fields z s n (back .reads) in
+    let same : bodyOf z ≡ body = ap (λ (r : Reading). bodyIn r z) (reads-as z (aSignal s n) tt (back .reads) .1) ∙ back .same-body in
+    let counted : dataEnd z ≡ 52 + n = omega (arith, fields .body-size) in
+    record {
+      size = subst (λ (k : ℕ). FilledTo k (length z)) counted size;
+      type = type;
+      family = family;
+      length-field = field;
+      fields = subst (SignalFields z s n) same fields;
+      encoding-class = class;
+      tdl-type = tdl;
+      padding = sym own ∙ padding-places z (bytes-form (aSignal s n) body) none .signal type;
+    }
+
+-- of every record, body and output, without a premise
+pub output-exactly : (r : Reading) (body out : List ℕ) → OutputExactly r body out
+output-exactly r body out =
+    let refused : ℕ = writingRefusal r (length out) in
+    record {
+      taken = λ n e. by-size n (eqb refused 0) refl e;
+      refused = λ n e. by-number n (eqb refused 0) refl e;
+    }
+  where
+    by-size : (n : ℕ) (b : Bool)
+        → eqb (writingRefusal r (length out)) 0 ≡ b
+        → written r (length out) ≡ Size n
+        → (length (bytesOf r body) ≡ n) × (outputAfter r body out ≡ bytesOf r body ++ drop n out)
+    by-size n true t e =
+        let same : Size (sizeOf r) ≡ Size n = rw t at e in
+        let long : length (bytesOf r body) ≡ n = length-form r body ∙ cc in
+        (long, rw t (ap (λ (k : ℕ). bytesOf r body ++ drop k out) long))
+    by-size n false t e =
+        let other : NotWritten (writingRefusal r (length out)) ≡ Size n = rw t at e in
+        let z : _≡_ {A = ℕ} 0 1 = cc in
+        absurd (omega arith)
+
+    by-number : (n : ℕ) (b : Bool)
+        → eqb (writingRefusal r (length out)) 0 ≡ b
+        → written r (length out) ≡ NotWritten n
+        → outputAfter r body out ≡ out
+    by-number n false t e = rw t refl
+    by-number n true t e =
+        let other : Size (sizeOf r) ≡ NotWritten n = rw t at e in
+        let z : _≡_ {A = ℕ} 0 1 = cc in
+        absurd (omega arith)
