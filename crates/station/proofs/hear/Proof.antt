@@ -103,7 +103,7 @@ array-copy-out-sender : tie.Need-array-copy-out-sender Inv-loop μ-loop
 array-copy-out-sender c = omega arith
 
 outcome-of-requires : tie.Need-outcome-of-requires Inv-loop μ-loop
-outcome-of-requires c κs = keyed (c .before .before .before) .before .read .ensures
+outcome-of-requires c κs = keyed (c .before .before .before) .before .read .ensures .0
 
 mul-units : tie.Need-mul-units Inv-loop μ-loop
 mul-units c = omega arith

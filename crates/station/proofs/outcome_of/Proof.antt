@@ -114,7 +114,7 @@ returns-3 c = λ s e.
     let d = now (start .args .datagram) in
     let g = told .0 .0 in
     let here = sym (start .pre) ∙ told .1 in
-    let word = c .before .at .ensures ∙ ap (λ (b : List ℕ). wordAt b 0) (body-handed d g (told .0 .1 .0) here) in
+    let word = c .before .at .ensures .0 ∙ ap (λ (b : List ℕ). wordAt b 0) (body-handed d g (told .0 .1 .0) here) in
     c .signal .ensures s (placed s (start .args .part) (start .args .read) _ (told .1) e) ∙ ap (hearSignal s g) word ∙ stepped s d _ here
 
 pub outcome-of-spec : {M : Type 1} → statement M

@@ -44,10 +44,10 @@ D c = now (begin (kinded c) .args .datagram)
 
 -- number and kind are those of what was read
 kind-is : (c : tie.After-kind-of) → c .kind-of .result ≡ kindOf (reading (now (begin c .args .datagram)))
-kind-is c = c .kind-of .ensures ∙ ap kindOf (c .before .read .ensures)
+kind-is c = c .kind-of .ensures ∙ ap kindOf (c .before .read .ensures .0)
 
 number-is : (c : tie.After-number) → c .number .result ≡ numberOf (reading (now (begin (c .before) .args .datagram)))
-number-is c = c .number .ensures ∙ ap numberOf (c .before .before .read .ensures)
+number-is c = c .number .ensures ∙ ap numberOf (c .before .before .read .ensures .0)
 
 -- the refusal is that of the rules on this datagram; where there is none, what the rules say
 refusal : (c : tie.After-offer-refusal) → c .offer-refusal .result ≡ first (offerRules (near c) (S c) (D c))
@@ -113,7 +113,7 @@ put-record-requires c κs =
     let at = c .before in
     let e = at .before in (
       simp (length-take, length-drop) (omega (arith, at .row-start .ensures .1, fits e .store)),
-      kinded (e .before) .before .read .ensures,
+      kinded (e .before) .before .read .ensures .0,
       fits e .carried,
     )
 

@@ -72,7 +72,7 @@ returns-2 : tie.Need-returns-2
 unfolding wrongCarried
 returns-2 c =
     let kind = c .before .before .before .before in
-    let read = c .before .before .read-carried .ensures ∙ ap carried (part-rest headSize (R kind)) in
+    let read = c .before .before .read-carried .ensures .0 ∙ ap carried (part-rest headSize (R kind)) in
     let held = c .before .kind-of-carried .ensures ∙ ap kindCarried read in
     rw (sym (kind .before .before .is-reply .ensures) ∙ kind .before .if1 .left)
     (c .no .ensures
