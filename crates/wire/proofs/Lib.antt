@@ -6,3 +6,4 @@ pub mod RuleLaws
 pub mod FitLaws
 pub mod PartLaws
 pub mod ClearLaws
+pub mod AppendLaws

@@ -185,7 +185,7 @@ right-number (parts w ps) t xs e f =
     subst (λ (n : ℕ). fixed ps n ≡ true) (alone (2 ^ bits ps) _)
     (fixed-join ps 0 (take (keeps ps) xs) (parts-fill w ps t e .1) (f .0))
 
-length-values : (s : Slot) (v : ℕ) → length (values s v) ≡ count s
+pub length-values : (s : Slot) (v : ℕ) → length (values s v) ≡ count s
 length-values (kept w) v = refl
 length-values (padding w) v = refl
 length-values (one w u) v = refl
