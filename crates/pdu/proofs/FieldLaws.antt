@@ -12,9 +12,9 @@ use native.Mathlib.Nat.{div-one}
 use native.Mathlib.Omega.{arith}
 use Rattle.wire.specs.Bytes.{num}
 use Rattle.pdu.specs.Forms.{bodyIn}
-use Rattle.pdu.specs.Reading.{transmitterOf, signalOf, bodySize, bodyOf, reading}
+use Rattle.pdu.specs.Reading.{headerOf, transmitterOf, signalOf, bodyOf, reading}
 use Rattle.pdu.specs.Words.{wordsIn, wordAt, wordSays}
-use Rattle.pdu.specs.Fields.{TransmitterFields, SignalFields, WordParts, plainWord}
+use Rattle.pdu.specs.Fields.{HeaderFields, TransmitterFields, SignalFields, WordParts, plainWord}
 use Rattle.pdu.specs.declared.Word.{Word}
 use Rattle.pdu.specs.declared.Word.the-variants.{Here}
 use Rattle.pdu.specs.declared.Transmitter.{Transmitter}
@@ -24,6 +24,11 @@ use Rattle.pdu.specs.declared.Reading.the-variants.{Transmitter as aTran
 use Rattle.pdu.proofs.Answers.{reads-as, as-transmitter, as-signal, taken-exactly-when}
 
 -- where a table places each field
+pub header-places : (d : List ℕ) → HeaderFields d (headerOf d)
+unfolding headerOf
+header-places d =
+    record { version = refl; exercise = refl; timestamp = refl; site = refl; application = refl; entity = refl; radio = refl }
+
 transmitter-places : (d : List ℕ) → TransmitterFields d (transmitterOf d)
 unfolding transmitterOf
 transmitter-places d =

@@ -2,20 +2,22 @@
 -- tables these compute to the places that document 01 names. What is written reads back, so it holds each field at its place, every fixed value and
 -- zero padding (`transmitter-bytes`, `signal-bytes`); and the output holds it from its start, or is as it was (`output-exactly`).
 -- Assumes nothing.
-use Prim.Native.Nat.{ℕ, zero, suc, _+_, _-_, _*_, _/_, _%_, _^_}
-use mathlib.Core.Path.{_≡_, refl, sym, ap, subst, _∙_}
+use Prim.Native.Nat.{ℕ, zero, suc, _+_, _-_, _*_, _/_, _%_, _^_, _≤_}
+use mathlib.Core.Path.{_≡_, refl, sym, ap, ap₂, subst, _∙_}
 use mathlib.Core.Logic.{_≢_}
 use mathlib.Core.Bool.{Bool, true, false}
-use mathlib.Core.List.{List, [], _∷_, _++_}
+use mathlib.Core.List.{List, [], _∷_, _++_, append-nil}
 use lib.ListN.{length, getD, take, drop, replicate}
 use lib.Dec.{eqb}
 use native.Mathlib.Nat.{div-one}
 use native.Mathlib.Omega.{arith}
 use Rattle.wire.specs.Bytes.{num, big, span, joined, Bytes}
-use Rattle.wire.specs.Table.{keep, skip, clean, clear}
-use Rattle.wire.proofs.ByteLaws.{big-num, big-zero}
-use Rattle.wire.proofs.ClearLaws.{pieces, clear-pieces}
-use Rattle.pdu.specs.Tables.{fillOf}
+use Rattle.wire.specs.Table.{keep, skip, clean, clear, sound}
+use Rattle.wire.proofs.ByteLaws.{big-num}
+use Rattle.wire.proofs.TableLaws.{both-true}
+use Rattle.wire.proofs.AppendLaws.{clear-append, sound-append}
+use Rattle.wire.proofs.ClearLaws.{joined-append, clear-pieces}
+use Rattle.pdu.specs.Tables.{fillOf, transmitterTable, signalHead, bodyTable}
 use Rattle.pdu.specs.Forms.{tableOf, bytesOf, sizeOf, bodyIn}
 use Rattle.pdu.specs.Reading.{signalOf, bodySize, content, bodyOf, refusal}
 use Rattle.pdu.specs.Writing.{writingRefusal, written, outputAfter, writtenForm, paddingZero}
@@ -31,8 +33,10 @@ use Rattle.pdu.specs.declared.Reading.the-variants.{Refused, Transmitter
 use Rattle.pdu.specs.declared.Written.the-variants.{Refused as NotWritten, Size}
 use Rattle.pdu.proofs.Agreement.{content-transmitter, content-signal}
 use Rattle.pdu.proofs.Answers.{Holds, reading-taken, reads-as, taken-exactly-when}
-use Rattle.pdu.proofs.Taken.{Taken, taken, sound-form, width-form}
+use Rattle.pdu.proofs.Taken.{sound-form}
+use Rattle.pdu.proofs.BodyLaws.{slots-clear, body-clear}
 use Rattle.pdu.proofs.FieldLaws.{transmitter-fields, signal-fields}
+use Rattle.pdu.proofs.ReadLaws.{read-taken, taken-transmitter}
 use Rattle.pdu.proofs.RoundTrip.{written-form-back, length-form, bytes-form, reads-back}
 
 -- ---- padding
@@ -57,43 +61,46 @@ slot-bytes d b =
     bytes d b (suc (suc (suc zero))) = b 43
     bytes d b (suc (suc (suc (suc i)))) = omega arith
 
--- a taken datagram of a form has the form's size, and its padding is that of the form's table
-form-padding : (d : List ℕ) (r : Reading) → Bytes d → refusal d ≡ 0 → content d ≡ r
-    → (length d ≡ sizeOf r) × (paddingZero d ≡ joined (pieces 0 0 (tableOf r) d))
-unfolding paddingZero
-form-padding d r b e holds =
-    let h : Taken d r (bodyOf d) = subst (λ (q : Reading). Taken d q (bodyOf d)) holds (taken d e) in (
-      h .size,
-      ap (λ (q : Reading). clear 0 (tableOf q) d) holds
-          ∙ clear-pieces (tableOf r) 0 0 d (sound-form r (h .rules)) b (omega (arith, h .size, width-form r)),
-    )
-
 transmitter-padding : (d : List ℕ) → Bytes d → refusal d ≡ 0 → num 1 2 d ≡ 25 → paddingZero d ≡ joined (plainTransmitterZero d)
-transmitter-padding d b e type = form-padding d _ b e (content-transmitter d type) .1
+unfolding paddingZero
+transmitter-padding d b e type =
+    let holds = content-transmitter d type in
+    let long : length d ≡ 112 = taken-transmitter d e type in
+    ap (λ (r : Reading). clear 0 (tableOf r) d) holds ∙ clear-pieces transmitterTable 0 0 d refl b (omega arith)
+
+-- the bytes before a Signal's body
+head-padding : (n : ℕ) (d : List ℕ) → Bytes d → sound (signalHead n) ≡ true → 52 ≤ length d
+    → clear 0 (signalHead n) d ≡ joined (span 0 10 d ∷ (0 ∷ 0 ∷ []) ∷ span 12 38 d ∷ (0 ∷ 0 ∷ []) ∷ slot-left d ∷ span 44 52 d ∷ [])
+head-padding n d b fits long =
+    clear-pieces (signalHead n) 0 0 d fits b long
+    ∙ ap (λ (l : List ℕ). joined (span 0 10 d ∷ (0 ∷ 0 ∷ []) ∷ span 12 38 d ∷ (0 ∷ 0 ∷ []) ∷ l ∷ span 44 52 d ∷ [])) (slot-bytes d b)
 
 signal-padding : (d : List ℕ) → Bytes d → refusal d ≡ 0 → num 1 2 d ≡ 26 → paddingZero d ≡ joined (plainSignalZero d)
-unfolding slot-left
+unfolding paddingZero slot-left
 signal-padding d b e type =
-    let n : ℕ = bodySize d in
     let other : num 1 2 d ≢ 25 = λ z. omega arith in
     let holds = content-signal d other in
-    let (size, same) = form-padding d _ b e holds in
-    let (long, (v, (known, (field, (class, (tdl, ((whole, enough), rest))))))) =
-    taken-exactly-when d .signal-taken .0 (signalOf d, n, reading-taken d e ∙ holds) in
-    let counted : 8 + n ≡ dataEnd d - 44 = omega arith in
-    let left : fillOf n ≡ length d - dataEnd d = omega arith in
-    let blank : big (fillOf n) 0 ≡ replicate (length d - dataEnd d) 0 = big-zero (fillOf n) ∙ ap (λ (k : ℕ). replicate k 0) left in
-    same
-    ∙ (λ i.
-    joined
-    (span 0 10 d
-    ∷ (0 ∷ 0 ∷ [])
-    ∷ span 12 38 d
-    ∷ (0 ∷ 0 ∷ [])
-    ∷ slot-bytes d b i
-    ∷ take (counted i) (drop 44 d)
-    ∷ blank i
-    ∷ []))
+    let reads = reading-taken d e ∙ holds in
+    let n : ℕ = bodySize d in
+    let message : ℕ = signalOf d .network .«message_type» in
+    let h = read-taken d (aSignal (signalOf d) n) tt reads in
+    let fits = both-true _ _ (sym (sound-append (signalHead n) (bodyTable message n)) ∙ sound-form (aSignal (signalOf d) n) (h .rules)) in
+    let fields = signal-fields d (signalOf d) n reads in
+    let inside : 52 + n ≤ length d = omega (arith, h .size) in
+    let counted : n ≡ dataEnd d - 52 = omega (arith, fields .body-size) in
+    let left : fillOf n ≡ length d - dataEnd d = omega (arith, fields .body-size, h .size) in
+    let body : clear 52 (bodyTable message n) d ≡ joined (span 52 (dataEnd d) d ∷ replicate (length d - dataEnd d) 0 ∷ []) =
+    body-clear message n 52 d
+    ∙ ap₂ (λ (l z : List ℕ). l ++ z)
+    (slots-clear message n 52 d b inside ∙ ap (λ (k : ℕ). take k (drop 52 d)) counted)
+    (ap (λ (k : ℕ). replicate k 0) left ∙ sym (append-nil (replicate (length d - dataEnd d) 0))) in
+    ap (λ (r : Reading). clear 0 (tableOf r) d) holds
+    ∙ clear-append (signalHead n) (bodyTable message n) 0 d
+    ∙ ap₂ (λ (a z : List ℕ). a ++ z) (head-padding n d b (fits .0) (omega arith)) body
+    ∙ sym
+    (joined-append
+    (span 0 10 d ∷ (0 ∷ 0 ∷ []) ∷ span 12 38 d ∷ (0 ∷ 0 ∷ []) ∷ slot-left d ∷ span 44 52 d ∷ [])
+    (span 52 (dataEnd d) d ∷ replicate (length d - dataEnd d) 0 ∷ []))
 
 -- of every taken datagram
 pub padding-places : (d : List ℕ) → Bytes d → refusal d ≡ 0 → PaddingPlaces d

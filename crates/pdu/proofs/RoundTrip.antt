@@ -9,23 +9,23 @@ use mathlib.Core.Logic.{_↔_}
 use mathlib.Core.Bool.{Bool, true, false}
 use mathlib.Core.List.{List, [], _∷_, _++_, append-nil}
 use lib.ListN.{length, take, drop, replicate, length-drop}
-use lib.Seq.{take-all, length-take-le}
+use lib.Seq.{take-all, take-at, drop-at, length-take-le}
 use lib.Dec.{ltb}
 use borrow.Author.Tests.{eq-eqb, le-ltb, ltb-false}
 use native.Mathlib.Omega.{arith}
-use Rattle.wire.specs.Bytes.{num, big, Bytes}
+use Rattle.wire.specs.Bytes.{Bytes}
 use Rattle.wire.specs.First.{first, _given-when_, numbered}
-use Rattle.wire.specs.Table.{Slot, width, read, fill, allFixed, allBlank, sound, Fit}
-use Rattle.wire.proofs.ByteLaws.{num-lt, big-num, big-zero}
+use Rattle.wire.specs.Table.{Slot, width, read, fill, clear, allFixed, allBlank, sound, Fit}
 use Rattle.wire.proofs.TableLaws.{length-fill, read-fill, fixed-fill, fill-read, clear-blank, blank-clear}
 use Rattle.wire.proofs.FirstLaws.{first-next, none-of}
 use Rattle.wire.proofs.FitLaws.{bytes-fill, bytes-take, bytes-drop, fit-read}
+use Rattle.wire.proofs.AppendLaws.{fill-append}
 use Rattle.wire.proofs.RuleLaws.{_also_, equal, both-then}
 use Rattle.pdu.specs.Numbers
 use Rattle.pdu.specs.Rules.{accessRules, slotRules, networkRules, bodyRules, innerRules}
-use Rattle.pdu.specs.Tables.{fillOf, transmitterTable, signalTable}
+use Rattle.pdu.specs.Tables.{fillOf, transmitterTable, signalHead, bodySlots, bodyTable}
 use Rattle.pdu.specs.Records.{transmitterValues, signalValues}
-use Rattle.pdu.specs.Forms.{tableOf, valuesOf, bodyBytes, bytesOf, sizeOf, bodyIn}
+use Rattle.pdu.specs.Forms.{tableOf, bodyValues, valuesOf, bytesOf, sizeOf, bodyIn}
 use Rattle.pdu.specs.Reading.{content, bodyOf, refusal, numberOf}
 use Rattle.pdu.specs.Writing.{recordRules, writingRules, writingRefusal, writtenForm, paddingZero, inWrittenForm}
 use Rattle.pdu.specs.RoundTrips.{WrittenBack, bodyGiven, bodyLength, ReadsBack, WrittenForm}
@@ -36,6 +36,7 @@ use Rattle.pdu.specs.declared.Reading.{Reading}
 use Rattle.pdu.specs.declared.Reading.the-variants.{Refused, Transmitter as aTransmitter, Signal as aSignal}
 use Rattle.pdu.specs.declared.Written.the-variants.{Size}
 use Rattle.pdu.proofs.Answers.{reading-taken, refusal-read}
+use Rattle.pdu.proofs.BodyLaws.{slots-clear, body-fit, body-written}
 use Rattle.pdu.proofs.Taken.{Taken, taken, takes, signal-bounds, sound-form, width-form}
 
 -- ---- written back
@@ -131,58 +132,28 @@ again : (r : Reading) (body : List ℕ)
     → (refusal (bytesOf r body) ≡ 0) × (content (bytesOf r body) ≡ r)
 again r body fit rules = takes (bytesOf r body) r body (bytes-form r body) (written-taken r body fit rules)
 
--- bytes are the bytes of the number that they are read as
-same-bytes : (a b : List ℕ) (n : ℕ) → Bytes a → Bytes b → length a ≡ n → length b ≡ n → num n 0 a ≡ num n 0 b → a ≡ b
-same-bytes a b n ba bb la lb e =
-    sym (whole a ba la) ∙ ap (big n) e ∙ whole b bb lb
-  where
-    whole : (l : List ℕ) → Bytes l → length l ≡ n → big n (num n 0 l) ≡ l
-    whole l bl ll = big-num n 0 l bl (omega arith) ∙ take-all n l (omega arith)
-
--- a body of bytes, and zeros, are the bytes from byte 52 on
-pub body-filled : (body : List ℕ) → Bytes body → bodyBytes body ≡ body ++ replicate (fillOf (length body)) 0
-body-filled body b =
-    let n : ℕ = length body in
-    ap₂ (λ (l z : List ℕ). l ++ (z ++ []))
-    (big-num n 0 body b (omega arith) ∙ take-all n body (omega arith))
-    (big-zero (fillOf n))
-    ∙ ap (λ (z : List ℕ). body ++ z) (append-nil (replicate (fillOf n) 0))
-
--- the last value of a Signal is its body's number
-last-value : (s : Signal) (x y : ℕ) → signalValues s x ≡ signalValues s y → x ≡ y
-last-value s x y e = cc
-
--- a body given to a form of its size, where another datagram of that size has the same values
-same-body : (r : Reading) (d body : List ℕ)
-    → Bytes d
-    → Bytes body
-    → length d ≡ sizeOf r
-    → length body ≡ bodyLength r
-    → valuesOf r (bodyIn r d) ≡ valuesOf r body
-    → bodyIn r d ≡ bodyGiven r body
-same-body (Refused n) d body bd bb ld lb e = refl
-same-body (aTransmitter t) d body bd bb ld lb e = refl
-same-body (aSignal s n) d body bd bb ld lb e =
-    same-bytes (bodyIn (aSignal s n) d) body n
-    (bytes-take n (drop Numbers.bodyStart d) (bytes-drop Numbers.bodyStart d bd))
-    bb
-    (length-take-le n (drop Numbers.bodyStart d) (rw (length-drop Numbers.bodyStart d) (omega arith)))
-    lb
-    (last-value s _ _ e)
+-- what is written of a Signal from byte 52 on is its body, padding zero, and the fill
+body-at : (s : Signal) (n : ℕ) (body : List ℕ)
+    → drop Numbers.bodyStart (bytesOf (aSignal s n) body) ≡ clear 0 (bodySlots (s .network .«message_type») n) body ++ replicate (fillOf n) 0
+unfolding bytesOf
+body-at s n body =
+    let message : ℕ = s .network .«message_type» in
+    let held : List ℕ = bodyValues message n body in
+    let front : List ℕ = signalValues s [] in
+    ap (drop Numbers.bodyStart) (fill-append (signalHead n) (bodyTable message n) front held refl)
+    ∙ drop-at (fill (signalHead n) front) (fill (bodyTable message n) held) Numbers.bodyStart (length-fill (signalHead n) front)
+    ∙ body-written message n body
 
 -- written and read: the body too
-again-body : (r : Reading) (body : List ℕ)
-    → Bytes body
-    → length body ≡ bodyLength r
-    → Fit (tableOf r) (valuesOf r body)
-    → first (recordRules r) ≡ 0
-    → bodyIn r (bytesOf r body) ≡ bodyGiven r body
-again-body r body b long fit rules =
-    let d : List ℕ = bytesOf r body in
-    let (none, holds) = again r body fit rules in
-    let read-taken : Taken d r (bodyIn r d) = subst (λ (q : Reading). Taken d q (bodyIn q d)) holds (taken d none) in
-    same-body r d body (bytes-form r body) b (length-form r body) long
-    (sym (read-taken .values) ∙ written-taken r body fit rules .values)
+again-body : (r : Reading) (body : List ℕ) → Bytes body → length body ≡ bodyLength r → bodyIn r (bytesOf r body) ≡ bodyGiven r body
+again-body (Refused n) body b long = refl
+again-body (aTransmitter t) body b long = refl
+again-body (aSignal s n) body b long =
+    let message : ℕ = s .network .«message_type» in
+    let same : clear 0 (bodySlots message n) body ≡ body =
+    slots-clear message n 0 body b (omega (arith, long)) ∙ take-all n body (omega (arith, long)) in
+    ap (take n) (body-at s n body ∙ ap (λ (l : List ℕ). l ++ replicate (fillOf n) 0) same)
+    ∙ take-at body (replicate (fillOf n) 0) n long
 
 -- a record whose fields fit their types has values that fit the table
 transmitter-fit : (t : Transmitter) → FitsTransmitter t → Fit transmitterTable (transmitterValues t)
@@ -229,7 +200,7 @@ signal-fit : (s : Signal) (n : ℕ) (body : List ℕ)
     → FitsSignal s
     → Bytes body
     → first (recordRules (aSignal s n)) ≡ 0
-    → Fit (signalTable n) (signalValues s (num n 0 body))
+    → Fit (tableOf (aSignal s n)) (valuesOf (aSignal s n) body)
 signal-fit s n body f b e =
     let w = f .network in
     let bounds = signal-bounds s n e in
@@ -252,8 +223,7 @@ signal-fit s n body f b e =
     also w .«message_type»
     also (w .epoch, (slot-bits, refl))
     also w .time
-    also num-lt n 0 body b
-    also refl
+    also body-fit (s .network .«message_type») n body b
 
 fit-form : (r : Reading) (body : List ℕ) → Fits r → Bytes body → first (recordRules r) ≡ 0 → Fit (tableOf r) (valuesOf r body)
 fit-form (Refused n) body f b e = absurd f
@@ -273,7 +243,7 @@ reads-back r body room f b long e =
     let (none, holds) = again r body fit rules in
     record {
       reads = reading-taken (bytesOf r body) none ∙ holds;
-      same-body = again-body r body b long fit rules;
+      same-body = again-body r body b long;
     }
 
 -- ---- the written form
@@ -304,7 +274,7 @@ written-form d b e =
     let fit : Fit (tableOf r) (valuesOf r body) = subst (Fit (tableOf r)) (h .values) (fit-read (tableOf r) 0 d b) in
     let (none, holds) = again r body fit (h .rules) in
     let same-body : bodyIn r (bytesOf r body) ≡ body =
-    again-body r body (body-in-bytes r d b) (body-in-long r d (h .size)) fit (h .rules) ∙ given-in r d in
+    again-body r body (body-in-bytes r d b) (body-in-long r d (h .size)) ∙ given-in r d in
     let body-same : bodyOf (bytesOf r body) ≡ body = ap (λ (q : Reading). bodyIn q (bytesOf r body)) holds ∙ same-body in
     record {
       size = length-form r body ∙ ap sizeOf (sym (reading-taken d e));

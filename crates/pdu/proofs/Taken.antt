@@ -17,9 +17,8 @@ use Rattle.wire.specs.Rules.{Met}
 use Rattle.wire.specs.Table.{Slot, kept, padding, one, parts, fixed, width, read, allFixed, sound}
 use Rattle.wire.proofs.RuleLaws.{_also_, equal, both}
 use Rattle.wire.proofs.ByteLaws.{num-lt}
-use Rattle.wire.proofs.PartLaws.{num-part}
 use Rattle.pdu.specs.Numbers
-use Rattle.pdu.specs.Tables.{signalSize, dataBits, transmitterTable, signalTable}
+use Rattle.pdu.specs.Tables.{signalSize, dataBits, transmitterTable, bodyTable, signalTable}
 use Rattle.pdu.specs.Records.{transmitterFrom, signalFrom, signalValues}
 use Rattle.pdu.specs.Forms.{tableOf, valuesOf, sizeOf, bodyIn}
 use Rattle.pdu.specs.Reading.{transmitterOf, signalOf, bodySize, saysTransmitter, content, bodyOf, refusal}
@@ -33,6 +32,7 @@ use Rattle.pdu.specs.declared.Reading.the-variants.{Refused, Transmitter
 use Rattle.pdu.proofs.Agreement.{version-says, content-transmitter, content-signal, inner-verdict, inner-record, transmitter-verdict}
 use Rattle.pdu.proofs.Agreement.{signal-verdict, transmitter-record, signal-record}
 use Rattle.pdu.proofs.Answers.{transmitter-met, signal-met}
+use Rattle.pdu.proofs.BodyLaws.{body-width, body-fixed, body-sound, body-read}
 
 -- the fixed places of a table, one by one
 abbrev Fixed : ℕ → List Slot → List ℕ → Type 0
@@ -125,14 +125,11 @@ signal-bounds s n e =
     by true t few most = omega (arith, few (eqb-true _ _ t))
     by false t few most = most (eqb-false _ _ t)
 
--- the number of the body is the number from byte 52 on
-body-number : (n : ℕ) (d : List ℕ) → num n 0 (take n (drop Numbers.bodyStart d)) ≡ num n Numbers.bodyStart d
-body-number n d = num-part n 0 n Numbers.bodyStart d (omega arith)
-
 signal-holds : (d : List ℕ) → Met (plainSignal d) → Taken d (aSignal (signalOf d) (bodySize d)) (take (bodySize d) (drop Numbers.bodyStart d))
 unfolding signalOf recordRules
 signal-holds d (long, (v, ((type, family), ((same, least), (class, (tdl, ((whole, enough), (size, rest)))))))) =
     let n : ℕ = bodySize d in
+    let message : ℕ = num 1 37 d in
     let bits : num 2 28 d ≡ dataBits n = omega arith in
     let part : num 2 20 d / 2 ^ 14 % 2 ^ 2 ≡ 1 = omega arith in
     let full : length d ≡ signalSize n = omega arith in
@@ -141,7 +138,7 @@ signal-holds d (long, (v, ((type, family), ((same, least), (class, (tdl, ((whole
     record {
       size = full;
       fixed =
-          all-fixed (signalTable n) 0 d .1
+          all-fixed (signalTable message n) 0 d .1
           (type
           also family
           also (same ∙ full)
@@ -149,8 +146,8 @@ signal-holds d (long, (v, ((type, family), ((same, least), (class, (tdl, ((whole
           also tdl
           also bits
           also refl
-          also tt);
-      values = ap (signalValues (signalOf d)) (sym (body-number n d));
+          also all-fixed (bodyTable message n) _ d .0 (body-fixed message n _ d));
+      values = ap (signalValues (signalOf d)) (body-read message n _ d);
       rules = rw (version-says _ .1 v, le-ltb _ _ small) (inner-verdict d .none .1 rest);
     }
 
@@ -160,7 +157,7 @@ signal-rules : (d : List ℕ) (s : Signal) (n : ℕ) (body : List ℕ)
     → Met (plainSignal d) × (signalOf d ≡ s) × (bodySize d ≡ n)
 unfolding signalOf
 signal-rules d s n body b h =
-    let (type, (family, (same, (class, (tdl, (bits, end)))))) = all-fixed (signalTable n) 0 d .0 (h .fixed) in
+    let (type, (family, (same, (class, (tdl, (bits, end)))))) = all-fixed (signalTable (s .network .«message_type») n) 0 d .0 (h .fixed) in
     let record-same : signalOf d ≡ s = ap signalFrom (h .values) in
     let size-same : bodySize d ≡ n = ap (λ (m : ℕ). m / 8 - Numbers.networkBytes) bits ∙ omega arith in
     let (v, (encoding, inner)) = signal-record s n .none .0 (h .rules) in
@@ -221,9 +218,9 @@ sound-form (Refused n) e = refl
 sound-form (aTransmitter t) e = refl
 sound-form (aSignal s n) e =
     let short = signal-bounds s n e .body in
-    rw (lt-ltb (signalSize n) (256 ^ 2) (omega arith), lt-ltb (dataBits n) (256 ^ 2) (omega arith))
+    rw (lt-ltb (signalSize n) (256 ^ 2) (omega arith), lt-ltb (dataBits n) (256 ^ 2) (omega arith)) (body-sound (s .network .«message_type») n)
 
 pub width-form : (r : Reading) → width (tableOf r) ≡ sizeOf r
 width-form (Refused n) = refl
 width-form (aTransmitter t) = refl
-width-form (aSignal s n) = omega arith
+width-form (aSignal s n) = omega (arith, body-width (s .network .«message_type») n)

@@ -2,10 +2,9 @@
 use Prim.Native.Nat.{ℕ}
 use mathlib.Core.List.{List, [], _∷_}
 use lib.ListN.{length, take, drop}
-use Rattle.wire.specs.Bytes.{num}
-use Rattle.wire.specs.Table.{Slot, fill}
+use Rattle.wire.specs.Table.{Slot, read, fill}
 use Rattle.pdu.specs.Numbers
-use Rattle.pdu.specs.Tables.{signalSize, transmitterTable, bodyTable, signalTable}
+use Rattle.pdu.specs.Tables.{signalSize, transmitterTable, bodySlots, bodyTable, signalTable}
 use Rattle.pdu.specs.Records.{transmitterValues, signalValues}
 use Rattle.pdu.specs.declared.Reading.{Reading}
 use Rattle.pdu.specs.declared.Reading.the-variants.{Refused, Transmitter, Signal}
@@ -14,17 +13,21 @@ use Rattle.pdu.specs.declared.Reading.the-variants.{Refused, Transmitter
 abbrev pub tableOf : Reading → List Slot
 tableOf (Refused n) = []
 tableOf (Transmitter t) = transmitterTable
-tableOf (Signal s n) = signalTable n
+tableOf (Signal s n) = signalTable (s .network .«message_type») n
+
+-- the values of a body of n bytes in a message of this type
+abbrev pub bodyValues : ℕ → ℕ → List ℕ → List ℕ
+bodyValues type n body = read 0 (bodySlots type n) body
 
 -- the values in the table's order, with the body given
 abbrev pub valuesOf : Reading → List ℕ → List ℕ
 valuesOf (Refused n) body = []
 valuesOf (Transmitter t) body = transmitterValues t
-valuesOf (Signal s n) body = signalValues s (num n 0 body)
+valuesOf (Signal s n) body = signalValues s (bodyValues (s .network .«message_type») n body)
 
--- the bytes from byte 52 on: the body, and its fill
-abbrev pub bodyBytes : List ℕ → List ℕ
-bodyBytes body = fill (bodyTable (length body)) (num (length body) 0 body ∷ [])
+-- the bytes from byte 52 on in a message of this type: the body, and its fill
+abbrev pub bodyBytes : ℕ → List ℕ → List ℕ
+bodyBytes type body = fill (bodyTable type (length body)) (bodyValues type (length body) body)
 
 -- the bytes of the PDU, with the body given
 unfoldable pub bytesOf : Reading → List ℕ → List ℕ

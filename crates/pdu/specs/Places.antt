@@ -40,7 +40,8 @@ plainSignalZero d =
     ∷ span 12 38 d
     ∷ (0 ∷ 0 ∷ [])  -- 38, 39
     ∷ (getD d 40 0 ∷ getD d 41 0 % 2 ∷ getD d 42 0 ∷ getD d 43 0 ∷ [])
-    ∷ span 44 (dataEnd d) d
+    ∷ span 44 52 d
+    ∷ span 52 (dataEnd d) d  -- the body
     ∷ replicate (length d - dataEnd d) 0
     ∷ []
 

@@ -8,7 +8,7 @@ use Rattle.wire.specs.Bytes.{num}
 use Rattle.wire.specs.First.{Refusal, _given-when_, first, told}
 use Rattle.wire.specs.Table.{read}
 use Rattle.pdu.specs.Numbers
-use Rattle.pdu.specs.Tables.{filled, headerTable, transmitterTable, signalTable}
+use Rattle.pdu.specs.Tables.{filled, headerTable, transmitterTable, signalHead}
 use Rattle.pdu.specs.Records.{headerFrom, transmitterFrom, transmitterValues, signalFrom, signalValues}
 use Rattle.pdu.specs.Rules.{wrongVersion, innerRules}
 use Rattle.pdu.specs.Forms.{bodyIn}
@@ -32,7 +32,7 @@ abbrev pub bodySize : List ℕ → ℕ
 bodySize d = num 2 28 d / 8 - Numbers.networkBytes
 
 unfoldable pub signalOf : List ℕ → Signal
-signalOf d = signalFrom (read 0 (signalTable (bodySize d)) d)
+signalOf d = signalFrom (read 0 (signalHead (bodySize d)) d)
 
 -- whether byte 2 says Transmitter
 abbrev pub saysTransmitter : List ℕ → Bool
@@ -131,7 +131,7 @@ numberOf (aSignal s n) = 0
 abbrev pub valuesHeld : Reading → List ℕ
 valuesHeld (Refused n) = []
 valuesHeld (aTransmitter t) = transmitterValues t
-valuesHeld (aSignal s n) = signalValues s n
+valuesHeld (aSignal s n) = signalValues s (n ∷ [])
 
 -- document 01's number and values of each answer of reading
 abbrev pub readingSays : Reading → List ℕ

@@ -146,8 +146,7 @@ signalFrom v =
       network = networkFrom (drop (counts (encodingTable 0)) (pastHeader v));
     }
 
--- the values of a Signal whose body is this number
-abbrev pub signalValues : Signal → ℕ → List ℕ
+-- the values of a Signal whose body has these
+abbrev pub signalValues : Signal → List ℕ → List ℕ
 signalValues s body =
-    headerValues (s .header)
-    ++ (encodingValues s ++ (networkValues (s .network) ++ (body ∷ [])))
+    headerValues (s .header) ++ (encodingValues s ++ (networkValues (s .network) ++ body))

@@ -119,14 +119,21 @@ networkTable =
     ∷ kept 8  -- 44 perceived transmit time
     ∷ []
 
--- from byte 52 on: the body's n bytes as one number ("carried unread", "every bit of a body"), and the fill
-abbrev pub bodyTable : ℕ → List Slot
-bodyTable n = kept n ∷ padding (fillOf n) ∷ []
+-- bytes 0 to 51, for a body of n bytes
+abbrev pub signalHead : ℕ → List Slot
+signalHead n = headerTable Numbers.signalType (signalSize n) ++ (encodingTable n ++ networkTable)
 
--- 01, "Signal", with a body of n bytes
-abbrev pub signalTable : ℕ → List Slot
-signalTable n =
-    headerTable Numbers.signalType (signalSize n) ++ (encodingTable n ++ (networkTable ++ bodyTable n))
+-- the body's n bytes in a message of this type: one number, "carried unread", "every bit of a body"
+unfoldable pub bodySlots : ℕ → ℕ → List Slot
+bodySlots type n = kept n ∷ []
+
+-- from byte 52 on: the body, and the fill
+abbrev pub bodyTable : ℕ → ℕ → List Slot
+bodyTable type n = bodySlots type n ++ (padding (fillOf n) ∷ [])
+
+-- 01, "Signal", for a message of this type with a body of n bytes
+abbrev pub signalTable : ℕ → ℕ → List Slot
+signalTable type n = signalHead n ++ bodyTable type n
 
 -- 01, "A word is an 80-bit number": sublabel in bits 7 to 9, label in 2 to 6, format in 0 and 1
 abbrev pub wordTable : List Slot

@@ -5,7 +5,8 @@ ghost use lib.ListN.{length};
 ghost use Rattle.wire.specs.First.{first};
 ghost use Rattle.wire.specs.Table.{allBlank};
 ghost use Rattle.pdu.specs.Numbers.{shortest, bodyStart};
-ghost use Rattle.pdu.specs.Tables.{networkTable, signalTable};
+ghost use Rattle.pdu.specs.Tables.{networkTable};
+ghost use Rattle.pdu.specs.Forms.{tableOf};
 ghost use Rattle.pdu.specs.Rules.{innerRules};
 ghost use Rattle.pdu.specs.Reading.{signalOf, bodySize, wrongBits, signalLayout, formRules};
 ghost use Rattle.pdu.specs.Writing.{writtenAs};
@@ -134,7 +135,7 @@ fn is_slot_blank(d: &[u8]) -> bool
 // Whether every padding bit of a Signal whose layout is right, and its fill, is zero.
 fn is_blank(d: &[u8]) -> bool
     requires { ⌜ first (signalLayout (now d)) ≡ 0 ⌝ }
-    ensures { λ r. ⌜ r ≡ allBlank 0 (signalTable (bodySize (now (d .entry)))) (now (d .entry)) ⌝ }
+    ensures { λ r. ⌜ r ≡ allBlank 0 (tableOf (aSignal (signalOf (now (d .entry))) (bodySize (now (d .entry))))) (now (d .entry)) ⌝ }
 {
     let end = body_end(d);
     let late = wire::both(is_slot_blank(d), wire::is_zero(&d[end..]));

@@ -6,6 +6,7 @@ use Rattle.pdu.specs.Rules.{wrongVersion, wrongSync, accessRules, slotRules, ne
 use Rattle.pdu.specs.Reading.{transmitterOf, signalOf, content, wrongType, wrongLength, wrongFixed, wrongBits, startRules, transmitterLayout}
 use Rattle.pdu.specs.Reading.{signalLayout, readingRules, refusal, reading}
 use Rattle.pdu.specs.Words.{wordAt}
+use Rattle.pdu.specs.Tables.{bodySlots}
 use Rattle.pdu.specs.Forms.{bytesOf}
 use Rattle.station.specs.Units.{fresh, made, placeOf}
 use Rattle.station.specs.Hearing.{enter, renew, hearTransmitter, otherId, signalRules as stationRules, labelled, messageOf, afterJ00}
@@ -14,7 +15,7 @@ use Rattle.station.specs.Clock.{atTime, clocked}
 use Rattle.station.specs.Example.{ExampleRuns}
 
 pub runs : ExampleRuns
-unfolding bytesOf wordAt wrongVersion wrongSync accessRules slotRules networkRules bodyRules innerRules transmitterOf signalOf content
+unfolding bodySlots bytesOf wordAt wrongVersion wrongSync accessRules slotRules networkRules bodyRules innerRules transmitterOf signalOf content
     wrongType wrongLength
     wrongFixed wrongBits startRules transmitterLayout signalLayout readingRules refusal reading
     least wordOf fresh made placeOf enter

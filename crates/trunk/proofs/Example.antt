@@ -14,6 +14,7 @@ use borrow.Author.Tests.{eqb-true, ltb-true}
 use Rattle.wire.specs.Bytes.{big, Bytes}
 use Rattle.wire.proofs.TableLaws.{both-true}
 use Rattle.pdu.specs.Rules.{wrongVersion, wrongSync, accessRules, slotRules, networkRules, bodyRules, innerRules}
+use Rattle.pdu.specs.Tables.{bodySlots}
 use Rattle.pdu.specs.Forms.{bytesOf}
 use Rattle.pdu.specs.Reading.{transmitterOf, signalOf, content, wrongType, wrongLength, wrongFixed, wrongBits, startRules, transmitterLayout}
 use Rattle.pdu.specs.Reading.{signalLayout, readingRules, refusal, reading}
@@ -225,7 +226,7 @@ unfolding fair allowed among same said story before after-all sending arriving r
     signal start-of zeros offered storeAfter offerRulesOf sent sentOut sendRules replied replyRules arrived isNext countAfter replyAfter
     outputAfter arrivalRules ticked recordOf load unknownKind wrongSize isReply lastOfAll wrongCarried formRules pduRules wrongVersion
     wrongType wrongLength wrongFixed wrongSync wrongBits networkRules bodyRules readingRules refusal content reading transmitterOf
-    signalOf writtenForm inWrittenForm accessRules slotRules innerRules bytesOf startRules transmitterLayout signalLayout
+    signalOf writtenForm inWrittenForm accessRules slotRules innerRules bodySlots bytesOf startRules transmitterLayout signalLayout
 computed = (refl, refl, refl, refl, refl)
 
 -- the list is fair, so demand 3 speaks of it; each call answers as its line says; four PDUs are accepted, three put out, two acknowledged

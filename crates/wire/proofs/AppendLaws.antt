@@ -1,18 +1,18 @@
 -- A table that is put together from two: reading, writing, clearing and the tests of it are those of the first and then those of the second
 -- (`read-append`, ..); and a table read in a part of the bytes is read at its place in the whole (`read-part`). By induction on the first table.
 -- Assumes nothing.
-use Prim.Native.Nat.{ℕ, _+_, _^_, _≤_}
+use Prim.Native.Nat.{ℕ, suc, _+_, _^_, _≤_}
 use mathlib.Core.Path.{_≡_, refl, sym, ap, ap₂, _∙_}
 use mathlib.Core.Bool.{Bool, true, false, _&&_}
 use mathlib.Core.List.{List, [], _∷_, _++_, append-assoc}
-use lib.ListN.{length, take, drop, length-append}
-use lib.Seq.{take-at, drop-at}
+use lib.ListN.{length, take, drop, length-append, length-take, length-drop}
+use lib.Seq.{take-append-le, drop-append-le}
 use lib.Dec.{eqb, ltb}
 use native.Mathlib.Nat.{add-zero, add-assoc}
 use native.Mathlib.Omega.{arith}
 use Rattle.wire.specs.Bytes.{num, big}
-use Rattle.wire.specs.Table.{Slot, kept, padding, one, parts, bits, soundParts, wide, count, counts, values, number, tidy, right, blank, width}
-use Rattle.wire.specs.Table.{read, fill, clear, allFixed, allBlank, sound, Fit}
+use Rattle.wire.specs.Table.{Part, keep, only, skip, Slot, kept, padding, one, parts, bits, keeps, soundParts, wide, count, counts, values}
+use Rattle.wire.specs.Table.{number, tidy, right, blank, width, read, fill, clear, allFixed, allBlank, sound, FitParts, Fit}
 use Rattle.wire.proofs.TableLaws.{length-values}
 use Rattle.wire.proofs.PartLaws.{num-part}
 
@@ -84,3 +84,40 @@ read-part (s ∷ t) i n o d h =
     ap₂ (λ (v : ℕ) (l : List ℕ). values s v ++ l)
     (num-part (wide s) i n o d (omega arith))
     (read-part t (i + wide s) n o d (omega arith) ∙ ap (λ (k : ℕ). read k t d) (sym (add-assoc o i (wide s))))
+
+-- values that were put together for the two
+pub fill-append : (t u : List Slot) (xs ys : List ℕ) → length xs ≡ counts t → fill (t ++ u) (xs ++ ys) ≡ fill t xs ++ fill u ys
+fill-append [] u [] ys h = refl
+fill-append [] u (x ∷ xs) ys h = absurd (omega (arith, h))
+fill-append (s ∷ t) u xs ys h =
+    let c : ℕ = count s in
+    let enough : c ≤ length xs = omega (arith, h) in
+    let here : List ℕ = big (wide s) (number s (take c xs)) in
+    let rest : length (drop c xs) ≡ counts t = length-drop c xs ∙ omega (arith, h) in
+    ap₂ (λ (a b : List ℕ). big (wide s) (number s a) ++ fill (t ++ u) b) (take-append-le c xs ys enough) (drop-append-le c xs ys enough)
+    ∙ ap (λ (l : List ℕ). here ++ l) (fill-append t u (drop c xs) ys rest)
+    ∙ sym (append-assoc here (fill t (drop c xs)) (fill u ys))
+
+-- values that fit are as many as the parts keep
+fit-count : (ps : List Part) (xs : List ℕ) → FitParts ps xs → length xs ≡ keeps ps
+fit-count [] xs f = ap length f
+fit-count (keep b ∷ ps) [] f = absurd f
+fit-count (keep b ∷ ps) (x ∷ xs) f = ap suc (fit-count ps xs (f .1))
+fit-count (only b v ∷ ps) xs f = fit-count ps xs f
+fit-count (skip b ∷ ps) xs f = fit-count ps xs f
+
+fit-long : (ps : List Part) (xs : List ℕ) → FitParts ps (take (keeps ps) xs) → keeps ps ≤ length xs
+fit-long ps xs f = omega (arith, fit-count ps (take (keeps ps) xs) f, length-take (keeps ps) xs)
+
+pub fit-append : (t u : List Slot) (xs ys : List ℕ) → Fit t xs → Fit u ys → Fit (t ++ u) (xs ++ ys)
+fit-append [] u [] ys f g = g
+fit-append [] u (x ∷ xs) ys f g = absurd (omega (arith, ap length f))
+fit-append (kept w ∷ t) u [] ys f g = absurd f
+fit-append (kept w ∷ t) u (x ∷ xs) ys f g = (f .0, fit-append t u xs ys (f .1) g)
+fit-append (padding w ∷ t) u xs ys f g = fit-append t u xs ys f g
+fit-append (one w v ∷ t) u xs ys f g = fit-append t u xs ys f g
+fit-append (parts w ps ∷ t) u xs ys f g =
+    let enough : keeps ps ≤ length xs = fit-long ps xs (f .0) in (
+      rw (take-append-le (keeps ps) xs ys enough) (f .0),
+      rw (drop-append-le (keeps ps) xs ys enough) (fit-append t u (drop (keeps ps) xs) ys (f .1) g),
+    )

@@ -2,7 +2,7 @@
 -- between the runs (`clear-pieces`). By induction on the table, with the run so far in hand.
 -- Assumes nothing.
 use Prim.Native.Nat.{ℕ, _+_, _≤_, _<_, _^_}
-use mathlib.Core.Path.{_≡_, refl, sym, ap, ap₂, _∙_}
+use mathlib.Core.Path.{_≡_, refl, sym, ap, _∙_}
 use mathlib.Core.Bool.{Bool, true, false, cond, false≢true}
 use mathlib.Core.List.{List, [], _∷_, _++_, append-assoc}
 use lib.ListN.{length, take, drop}
@@ -46,6 +46,11 @@ pieces o w (s ∷ t) d =
     cond (whole s)
     (pieces o (w + wide s) t d)
     (take w (drop o d) ∷ big (wide s) (tidy s (num (wide s) (o + w) d)) ∷ pieces (o + w + wide s) 0 t d)
+
+-- the pieces of two lists of them
+pub joined-append : (ps qs : List (List ℕ)) → joined (ps ++ qs) ≡ joined ps ++ joined qs
+joined-append [] qs = refl
+joined-append (p ∷ ps) qs = ap (λ (l : List ℕ). p ++ l) (joined-append ps qs) ∙ sym (append-assoc p (joined ps) (joined qs))
 
 -- a run, and the bytes next to it
 run-on : (w k o : ℕ) (d q : List ℕ) → take w (drop o d) ++ (take k (drop (o + w) d) ++ q) ≡ take (w + k) (drop o d) ++ q

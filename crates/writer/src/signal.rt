@@ -81,10 +81,10 @@ fn put_network(out: &mut [u8], n: Network)
     wire::put_u64(out, 44, n.time);
 }
 
-// Writes the body and the fill.
-fn put_body(out: &mut [u8], body: &[u8])
+// Writes the body of a message of this type, and the fill.
+fn put_body(out: &mut [u8], message_type: u8, body: &[u8])
     requires { ⌜ (length (now body) ≤ mostBytes) × (signalSize (length (now body)) ≤ length (now out)) ⌝ }
-    ensures { λ _. ⌜ now (out .exit) ≡ splice bodyStart (bodyBytes (now (body .entry))) (now (out .entry)) ⌝ }
+    ensures { λ _. ⌜ now (out .exit) ≡ splice bodyStart (bodyBytes «message_type» (now (body .entry))) (now (out .entry)) ⌝ }
 {
     let end = pdu::BODY_START + body.len();
     let size = pdu::rules::signal_size(body.len() as u16);
@@ -106,5 +106,5 @@ pub(crate) fn put(out: &mut [u8], s: Signal, body: &[u8])
     );
     put_encoding(out, s, n);
     put_network(out, s.network);
-    put_body(out, body);
+    put_body(out, s.network.message_type, body);
 }

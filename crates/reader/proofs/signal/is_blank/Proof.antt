@@ -1,7 +1,7 @@
 -- `is_blank` meets its contract: the tests, joined, are those of the whole table's padding; the fill is zero where its number is (`zero-end`).
 -- Assumes nothing.
 use Prim.Native.Nat.{ℕ, _+_, _/_, _%_}
-use mathlib.Core.Path.{_≡_, refl, ap, _∙_}
+use mathlib.Core.Path.{_≡_, refl, sym, ap, _∙_}
 use mathlib.Core.List.{List}
 use mathlib.Core.Bool.{Bool, true, false, _&&_}
 use lib.ListN.{drop}
@@ -12,7 +12,8 @@ use Rattle.wire.specs.Bytes.{num, allZero}
 use Rattle.wire.proofs.PartLaws.{zero-end, part-rest}
 use Rattle.pdu.specs.Numbers.{bodyStart}
 use Rattle.pdu.specs.Tables.{fillOf}
-use Rattle.pdu.specs.Reading.{bodySize}
+use Rattle.pdu.specs.Reading.{signalOf, bodySize}
+use Rattle.pdu.proofs.BodyLaws.{body-blank}
 use Rattle.pdu.proofs.ReadLaws.{signal-laid}
 use borrow.Author.Needs.{needs}
 use Rattle.reader.proofs.signal.is_blank.Statement.{statement}
@@ -72,7 +73,9 @@ returns c =
       fill-zero,
     )
     (ap (λ (t : Bool). eqb (num 2 10 d) 0 && t)
-    (regroup (eqb (num 2 38 d) 0) (eqb (num 4 40 d / 131072 % 128) 0 && true) (eqb (num (fillOf n) (bodyStart + n) d) 0)))
+    (regroup (eqb (num 2 38 d) 0) (eqb (num 4 40 d / 131072 % 128) 0 && true) (eqb (num (fillOf n) (bodyStart + n) d) 0))
+    ∙ ap (λ (t : Bool). eqb (num 2 10 d) 0 && (eqb (num 2 38 d) 0 && (eqb (num 4 40 d / 131072 % 128) 0 && true && t)))
+    (sym (body-blank (signalOf d .network .«message_type») n bodyStart d)))
 
 pub is-blank-spec : {M : Type 1} → statement M
 is-blank-spec =

@@ -10,7 +10,7 @@ use Rattle.wire.specs.Bytes.{splice, Bytes}
 use Rattle.wire.proofs.ByteLaws.{beside}
 use Rattle.pdu.specs.Numbers.{bodyStart}
 use Rattle.pdu.specs.Tables.{fillOf}
-use Rattle.pdu.proofs.RoundTrip.{body-filled}
+use Rattle.pdu.proofs.BodyLaws.{body-filled}
 use borrow.Author.Needs.{needs}
 use Rattle.writer.proofs.signal.put_body.Statement.{statement}
 use Rattle.writer.proofs.signal.put_body.Tie as tie
@@ -52,7 +52,7 @@ returns c =
     beside bodyStart n body (replicate (fillOf n) 0) out refl
     (zeros .zero .ensures ∙ ap (λ (k : ℕ). splice (bodyStart + n) (replicate k 0) (copied .copy .last .0)) size)
     (copied .copy .ensures)
-    ∙ ap (λ (l : List ℕ). splice bodyStart l out) (sym (body-filled body bytes))
+    ∙ ap (λ (l : List ℕ). splice bodyStart l out) (sym (body-filled (given .message-type) body bytes))
 
 pub put-body-spec : {M : Type 1} → statement M
 put-body-spec =
