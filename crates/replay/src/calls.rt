@@ -58,6 +58,24 @@ fn make_store(side: Side, size: usize) -> Side {
     after
 }
 
+// Puts bytes from `at` on, if there is room for them.
+fn put(store: &mut [u8; ROOM], at: usize, bytes: &[u8]) {
+    if at <= ROOM {
+        if bytes.len() <= ROOM - at {
+            wire::copy(store, at, bytes);
+        }
+    }
+}
+
+fn poke(side: Side, offset: usize, bytes: &[u8]) -> Side {
+    show::line(b"poke", offset as u64);
+    let near = side.near;
+    let mut store = side.store;
+    let size = side.size;
+    put(&mut store, offset, bytes);
+    Side { near, store, size }
+}
+
 fn offer(side: Side, datagram: &[u8]) -> Side {
     let near = side.near;
     let mut store = side.store;
@@ -120,6 +138,7 @@ fn clock(far: Far, t: u64) -> Far {
 fn run_near(side: Side, call: Call, given: &[u8; ROOM]) -> Side {
     match call {
         Call::Store(size) => make_store(side, size),
+        Call::Poke { offset, size } => poke(side, offset, text::first(given, size)),
         Call::Offer(n) => offer(side, text::first(given, n)),
         Call::Send { number, room } => send_from(side, number, room),
         Call::Near(n) => to_near(side, text::first(given, n)),
@@ -150,7 +169,7 @@ fn counted(lines: u64) -> u64 {
 fn run(state: State, call: Call, given: &[u8; ROOM]) -> State {
     let side = state.side;
     let far = state.far;
-    if script::in_place(call, state.lines) {
+    if script::in_place(call, state.lines, side.size) {
         return State {
             side: run_near(side, call, given),
             far: run_far(far, call, given),

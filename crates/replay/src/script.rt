@@ -11,6 +11,11 @@ pub enum Call {
     },
     // `store BYTES`: the lent store's length.
     Store(usize),
+    // `poke OFFSET HEX`: somebody else writes the store.
+    Poke {
+        offset: usize,
+        size: usize,
+    },
     // `offer HEX`
     Offer(usize),
     // `send NUMBER ROOM`
@@ -69,6 +74,19 @@ fn read_clock(words: &[u8]) -> Call {
     let t = text::decimal(words, u64::MAX);
     if t.good {
         Call::Clock(t.value)
+    } else {
+        Call::Bad
+    }
+}
+
+fn read_poke(words: &[u8], given: &mut [u8; ROOM]) -> Call {
+    let offset = text::decimal(text::first_word(words), ROOM as u64);
+    let n = text::bytes(text::other_words(words), given);
+    if wire::both(offset.good, n.good) {
+        Call::Poke {
+            offset: offset.value as usize,
+            size: n.value as usize,
+        }
     } else {
         Call::Bad
     }
@@ -136,14 +154,24 @@ pub fn read(line: &[u8], given: &mut [u8; ROOM]) -> Call {
     if check::same(word, b"far") {
         return read_far(words, given);
     }
+    if check::same(word, b"poke") {
+        return read_poke(words, given);
+    }
     read_numbers(word, words)
 }
 
-// Whether a call may stand behind so many lines: `station` first, `store` perhaps second, then the others.
-pub fn in_place(call: Call, before: u64) -> bool {
+// Whether `n` bytes from `at` on lie within `size`.
+fn fits(at: usize, n: usize, size: usize) -> bool {
+    if at <= size { n <= size - at } else { false }
+}
+
+// Whether a call may stand behind so many lines, with a store of so many bytes: `station` first, `store` perhaps second, then the others.
+// Nobody writes past the store's end.
+pub fn in_place(call: Call, before: u64, store: usize) -> bool {
     match call {
         Call::Station { level: _, net: _ } => before == 0,
         Call::Store(_) => before == 1,
+        Call::Poke { offset, size } => wire::both(0 < before, fits(offset, size, store)),
         Call::Bad => false,
         _ => 0 < before,
     }
