@@ -13,7 +13,8 @@ use std::collections::HashSet;
 
 #[derive(Debug, PartialEq, Eq)]
 pub enum Fault {
-    /// A line cannot be read, or something arrives that no earlier call wrote: nothing is claimed.
+    /// A line cannot be read, something arrives that no earlier call wrote, or somebody else writes
+    /// the store: nothing is claimed.
     NotFair,
     /// A sentence that does not hold.
     Broken(String),
@@ -85,6 +86,9 @@ impl History {
             if !self.written.contains(record) {
                 return Err(Fault::NotFair);
             }
+        }
+        if let Line::Poke { .. } = line {
+            return Err(Fault::NotFair);
         }
         match (line, outcome) {
             (Line::Station { level, net }, Some(Outcome::Station(number))) => {

@@ -23,9 +23,8 @@ const OFTEN: Often = Often {
 };
 const PROGRESS_STEP: u64 = 100;
 
-/// Answers stand in the order of document 01. Left out are 25 to an offer, for which more PDUs
-/// would have to be accepted than a script has, and 20 and 29 to a send, for which the caller
-/// would have to write into the store.
+/// Answers stand in the order of document 01. Left out is 25 to an offer, for which more PDUs would
+/// have to be accepted than a script has.
 pub const REPLAY: Format = Format {
     command: "compare-replay",
     option: "--replay",
@@ -33,6 +32,7 @@ pub const REPLAY: Format = Format {
     answers: &[
         ("station", &["0", "37"]),
         ("store", &["made"]),
+        ("poke", &["done"]),
         (
             "offer",
             &[
@@ -40,7 +40,7 @@ pub const REPLAY: Format = Format {
                 "15", "23", "24", "taken",
             ],
         ),
-        ("send", &["28", "26", "16", "written"]),
+        ("send", &["28", "26", "20", "29", "16", "written"]),
         ("near", &["20", "21", "29", "27", "taken"]),
         (
             "far",
@@ -81,6 +81,7 @@ fn answer(line: &str) -> Name {
         ["counts" | "unit", ..] => ("end", words[0]),
         ["bad", ..] => ("end", "bad line"),
         ["store", _] => ("store", "made"),
+        ["poke", _] => ("poke", "done"),
         ["send", _, _] if words[1] != "refused" => ("send", "written"),
         ["offer" | "near", _] => (words[0], "taken"),
         [about, .., answer] => (about, answer),

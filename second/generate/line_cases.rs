@@ -1,9 +1,10 @@
 //! Lines for the replay program at the limits of what it can read, and past them.
 
+use crate::hex;
 use crate::trunk::script::BYTES_MAX;
 
 /// Unreadable wherever they stand.
-const BAD_LINES: [&str; 59] = [
+const BAD_LINES: [&str; 74] = [
     "",
     " ",
     "station",
@@ -17,6 +18,21 @@ const BAD_LINES: [&str; 59] = [
     "store 4097",
     "store 1536 0",
     "store -1",
+    "poke",
+    "poke ",
+    "poke 0",
+    "poke 0 ",
+    "poke 0 0",
+    "poke 0 0g",
+    "poke 0 00 00",
+    "poke 0  00",
+    "poke - 00",
+    "poke -1 00",
+    "poke 00",
+    "poke 1536 00",
+    "poke 1535 0000",
+    "poke 1537 -",
+    "poke 18446744073709551615 00",
     "offer",
     "offer ",
     "offer  00",
@@ -68,6 +84,8 @@ const BAD_LINES: [&str; 59] = [
 const MISPLACED: [&[&str]; 3] = [
     &[
         "store 1536",
+        "poke 0 00",
+        "poke 0 -",
         "offer -",
         "send 0 0",
         "near -",
@@ -86,12 +104,18 @@ const AFTER: &str = "\nclock 2\n";
 const AT_LIMITS: &str = "\
 station 255 255
 store 4096
+poke 0 {}
+poke 4095 ff
+poke 4096 -
 offer {}
 send 4294967295 4096
 near {}
 far {} 4096 4096
 clock 18446744073709551615
 ";
+
+/// Lengths of a store, for writes up to its end and past it.
+const STORES: [usize; 5] = [0, 1, 1_535, 1_536, BYTES_MAX];
 
 /// Scripts at the limits of what can be read, the empty one among them, and just past them.
 pub fn scripts() -> Vec<String> {
@@ -105,11 +129,24 @@ pub fn scripts() -> Vec<String> {
         let bad_lines = BAD_LINES.iter().chain(misplaced);
         scripts.extend(bad_lines.map(|line| format!("{before}{line}{AFTER}")));
     }
-    for line in ["offer {}", "near {}", "far {} 180 5"] {
+    scripts.extend(STORES.into_iter().flat_map(past_a_store));
+    for line in ["offer {}", "near {}", "far {} 180 5", "poke 0 {}"] {
         for too_long in [format!("{most}00"), most.repeat(20)] {
             let line = line.replace("{}", &too_long);
             scripts.push(format!("{}{line}{AFTER}", BEFORE[2]));
         }
     }
     scripts
+}
+
+/// Somebody else writes a store of this length up to its end, then past it.
+fn past_a_store(size: usize) -> [String; 3] {
+    let whole = hex::encode(&vec![0x20; size]);
+    let before = format!("{}store {size}\npoke 0 {whole}\npoke {size} -\n", BEFORE[1]);
+    let past = [
+        format!("{size} 00"),
+        format!("{} -", size + 1),
+        format!("0 {}00", whole.trim_start_matches('-')),
+    ];
+    past.map(|past| format!("{before}poke {past}{AFTER}"))
 }

@@ -5,8 +5,8 @@ use super::records::RecordGenerator;
 use super::traffic::Traffic;
 use crate::pdu::{LAST_NET, LAST_TSA_LEVEL, WORDS_MAX};
 use crate::random::Random;
-use crate::trunk::near::STORE_SIZE;
-use crate::trunk::record::{self, Kind, ACCEPTED_MAX, PDU_SIZE_MAX, REPLY_SIZE};
+use crate::trunk::near::{self, STORE_SIZE};
+use crate::trunk::record::{self, Kind, ACCEPTED_MAX, HEAD_SIZE, PDU_SIZE_MAX, REPLY_SIZE};
 use crate::trunk::replay::Replay;
 use crate::trunk::script::{Line, Outcome, BYTES_MAX};
 use crate::trunk::station::{Station, ABSENCE_LIMIT};
@@ -15,8 +15,13 @@ use crate::trunk::station::{Station, ABSENCE_LIMIT};
 const LENGTHS: [u64; 5] = [10, 50, 200, 500, 1_500];
 /// Rarely does anything happen with a store of a wrong length.
 const LENGTH_WITHOUT_STORE: u64 = 40;
-/// Of every so many scripts one has invented arrivals; the others are fair.
+/// Of every so many scripts one is not fair, and of every so many of these one is poked.
 const UNFAIR_SHARE: u64 = 3;
+const POKED_SHARE: u64 = 3;
+/// Of every so many calls of a poked script one is a poke.
+const POKE_SHARE: u64 = 16;
+/// Bytes next to the known kinds, and the last.
+const UNKNOWN_KINDS: [u8; 6] = [13, 15, 17, 31, 33, 255];
 /// One lacks the end of its last line.
 const NO_END_SHARE: u64 = 8;
 /// One names a store of a wrong length, and one a store of the right length.
@@ -30,6 +35,29 @@ pub fn script(seed: u64) -> Vec<u8> {
     draft.finish()
 }
 
+/// What a script keeps to of the list of calls in demand 3.
+#[derive(Clone, Copy, PartialEq, Eq)]
+enum Sort {
+    /// Only records arrive that calls wrote.
+    Fair,
+    /// Other records arrive too.
+    Invented,
+    /// Only records arrive that calls wrote, but somebody else writes the store.
+    Poked,
+}
+
+impl Sort {
+    fn any(random: &mut Random) -> Self {
+        if !random.one_in(UNFAIR_SHARE) {
+            Sort::Fair
+        } else if random.one_in(POKED_SHARE) {
+            Sort::Poked
+        } else {
+            Sort::Invented
+        }
+    }
+}
+
 /// A script in the making, with the ends as its calls leave them.
 struct Draft {
     random: Random,
@@ -40,10 +68,11 @@ struct Draft {
     /// What calls wrote up to here: records with PDUs, and replies.
     sent: Vec<Vec<u8>>,
     replies: Vec<Vec<u8>>,
-    /// Only such records arrive.
-    is_fair: bool,
+    sort: Sort,
     /// The store has its right length.
     has_store: bool,
+    /// Puts back what the last poke wrote over.
+    undo: Option<Line>,
 }
 
 impl Draft {
@@ -58,8 +87,9 @@ impl Draft {
             lines: Vec::new(),
             sent: Vec::new(),
             replies: Vec::new(),
-            is_fair: !random.one_in(UNFAIR_SHARE),
+            sort: Sort::any(&mut random),
             has_store: !random.one_in(WRONG_STORE_SHARE),
+            undo: None,
             random,
         };
         draft.add(Line::Station { level, net });
@@ -107,9 +137,12 @@ impl Draft {
 
     /// Any call; rarely one for which there is nothing yet.
     fn call(&mut self) -> Line {
+        if self.sort == Sort::Poked && self.random.one_in(POKE_SHARE) {
+            return self.poke();
+        }
         let can_send = !self.replay.near.held().is_empty() || !self.has_store;
-        let can_arrive = !self.is_fair || !self.sent.is_empty();
-        let can_reply = !self.is_fair || !self.replies.is_empty();
+        let can_arrive = self.invents() || !self.sent.is_empty();
+        let can_reply = self.invents() || !self.replies.is_empty();
         match self.random.below(32) {
             0..=9 if can_send => self.send(),
             10..=20 if can_arrive => self.far(),
@@ -118,6 +151,10 @@ impl Draft {
             27 if self.random.one_in(8) => self.send(),
             _ => self.offer(),
         }
+    }
+
+    fn invents(&self) -> bool {
+        self.sort == Sort::Invented
     }
 
     fn offer(&mut self) -> Line {
@@ -166,7 +203,7 @@ impl Draft {
     }
 
     fn far(&mut self) -> Line {
-        let record = if !self.is_fair && (self.random.one_in(3) || self.sent.is_empty()) {
+        let record = if self.invents() && (self.random.one_in(3) || self.sent.is_empty()) {
             self.invent_for_far()
         } else if self.random.one_in(32) && !self.replies.is_empty() {
             pick_recent(&mut self.random, &self.replies)
@@ -181,7 +218,7 @@ impl Draft {
     }
 
     fn near(&mut self) -> Line {
-        let record = if !self.is_fair && (self.random.one_in(3) || self.replies.is_empty()) {
+        let record = if self.invents() && (self.random.one_in(3) || self.replies.is_empty()) {
             self.invent_for_near()
         } else if self.random.one_in(16) && !self.sent.is_empty() {
             pick_recent(&mut self.random, &self.sent)
@@ -229,6 +266,47 @@ impl Draft {
             }
             _ => self.records.record(),
         }
+    }
+
+    /// Somebody else writes the store. Most often the next poke undoes it, so that PDUs get through.
+    fn poke(&mut self) -> Line {
+        let undo = self.undo.take();
+        if let Some(undo) = undo.filter(|_| !self.random.one_in(4)) {
+            return undo;
+        }
+        let (offset, bytes) = if self.has_store && !self.random.one_in(8) {
+            self.poke_row()
+        } else {
+            self.poke_within(0, self.replay.store.len())
+        };
+        let before = self.replay.store[offset..][..bytes.len()].to_vec();
+        self.undo = Some(Line::Poke {
+            offset,
+            bytes: before,
+        });
+        Line::Poke { offset, bytes }
+    }
+
+    /// Most often the kind of a row that is held: unknown, that of a reply, or another that is known.
+    fn poke_row(&mut self) -> (usize, Vec<u8>) {
+        let row = near::row(self.number_to_send());
+        let kinds: Vec<u8> = Kind::all().map(Kind::byte).collect();
+        let kind = match self.random.below(8) {
+            0 | 1 => self.random.pick(&UNKNOWN_KINDS),
+            2 | 3 => Kind::Reply.byte(),
+            4 | 5 => self.random.pick(&kinds),
+            6 => self.random.next() as u8,
+            _ => return self.poke_within(row.start, row.end),
+        };
+        (row.start, vec![kind])
+    }
+
+    /// A few bytes, or none, from a place on.
+    fn poke_within(&mut self, start: usize, end: usize) -> (usize, Vec<u8>) {
+        let offset = self.random.within(start as u64, end as u64) as usize;
+        let most = (end - offset).min(HEAD_SIZE);
+        let count = self.random.within(0, most as u64) as usize;
+        (offset, self.random.bytes(count))
     }
 
     /// Steps of the clock; small ones where the units are many, so that they fill the places.

@@ -65,7 +65,7 @@ fn check_store(store: &[u8]) -> Result<(), Refusal> {
 }
 
 /// Where the row of a number lies in the store.
-fn row(number: u32) -> Range<usize> {
+pub fn row(number: u32) -> Range<usize> {
     let start = (number % ROWS) as usize * ROW_SIZE;
     start..start + ROW_SIZE
 }

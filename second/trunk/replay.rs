@@ -13,7 +13,7 @@ use std::fmt::{self, Display, Formatter};
 pub struct Replay {
     pub near: NearEnd,
     pub far: FarEnd,
-    store: Vec<u8>,
+    pub store: Vec<u8>,
 }
 
 /// What is printed at a clean end of the input.
@@ -60,6 +60,10 @@ impl Replay {
             Line::Store(bytes) => {
                 self.store = vec![0; *bytes];
                 Outcome::Store(*bytes)
+            }
+            Line::Poke { offset, bytes } => {
+                self.store[*offset..][..bytes.len()].copy_from_slice(bytes);
+                Outcome::Poked(*offset)
             }
             Line::Offer(datagram) => match self.near.offer(&mut self.store, datagram) {
                 Ok(taken) => Outcome::Offered(taken),

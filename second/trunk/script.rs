@@ -1,6 +1,7 @@
 //! The lines that the replay program reads and prints: a call in each line that it reads, its
 //! outcome in the line that it prints for it.
 
+use super::near::STORE_SIZE;
 use crate::hex;
 use std::fmt::{self, Display, Formatter};
 
@@ -17,6 +18,11 @@ pub enum Line {
     },
     /// The second line, if it is there: the length of the near end's store.
     Store(usize),
+    /// Somebody else writes these bytes into the store.
+    Poke {
+        offset: usize,
+        bytes: Vec<u8>,
+    },
     Offer(Vec<u8>),
     Send {
         number: u32,
@@ -41,6 +47,10 @@ impl Line {
                 net: number(net)?,
             },
             ["store", bytes] => Line::Store(size(bytes)?),
+            ["poke", offset, poked] => Line::Poke {
+                offset: size(offset)?,
+                bytes: bytes(poked)?,
+            },
             ["offer", datagram] => Line::Offer(bytes(datagram)?),
             ["send", sent, room] => Line::Send {
                 number: number(sent)?,
@@ -57,13 +67,25 @@ impl Line {
         })
     }
 
-    /// The station comes first, and the store at once after it or not at all.
-    fn may_stand_after(&self, lines: usize) -> bool {
+    /// The station comes first, and the store at once after it or not at all. Nobody writes past
+    /// the store's end.
+    fn may_stand_after(&self, lines: &[Line]) -> bool {
         match self {
-            Line::Station { .. } => lines == 0,
-            Line::Store(_) => lines == 1,
-            _ => lines > 0,
+            Line::Station { .. } => lines.is_empty(),
+            Line::Store(_) => lines.len() == 1,
+            Line::Poke { offset, bytes } => {
+                !lines.is_empty() && offset + bytes.len() <= store_size(lines)
+            }
+            _ => !lines.is_empty(),
         }
+    }
+}
+
+/// The length of the store behind these lines.
+fn store_size(lines: &[Line]) -> usize {
+    match lines.get(1) {
+        Some(Line::Store(bytes)) => *bytes,
+        _ => STORE_SIZE,
     }
 }
 
@@ -74,7 +96,7 @@ pub fn parse(input: &[u8]) -> (Vec<Line>, Option<usize>) {
     for text in input.split_inclusive(|&byte| byte == b'\n') {
         let text = std::str::from_utf8(text.strip_suffix(b"\n").unwrap_or(text)).ok();
         match text.and_then(Line::parse) {
-            Some(line) if line.may_stand_after(lines.len()) => lines.push(line),
+            Some(line) if line.may_stand_after(&lines) => lines.push(line),
             _ => {
                 let number = lines.len() + 1;
                 return (lines, Some(number));
@@ -103,6 +125,7 @@ impl Display for Line {
         match self {
             Line::Station { level, net } => write!(f, "station {level} {net}"),
             Line::Store(bytes) => write!(f, "store {bytes}"),
+            Line::Poke { offset, bytes } => write!(f, "poke {offset} {}", hex::encode(bytes)),
             Line::Offer(datagram) => write!(f, "offer {}", hex::encode(datagram)),
             Line::Send { number, room } => write!(f, "send {number} {room}"),
             Line::Near(record) => write!(f, "near {}", hex::encode(record)),
@@ -122,6 +145,8 @@ pub enum Outcome {
     /// 0, or 37.
     Station(u32),
     Store(usize),
+    /// The offset.
+    Poked(usize),
     /// The number taken.
     Offered(u32),
     /// The record written.
@@ -175,6 +200,7 @@ impl Outcome {
             [word, "refused", refusal] => Outcome::Refused(Word::parse(word)?, number(refusal)?),
             ["station", answer] => Outcome::Station(number(answer)?),
             ["store", bytes] => Outcome::Store(size(bytes)?),
+            ["poke", offset] => Outcome::Poked(size(offset)?),
             ["offer", taken] => Outcome::Offered(number(taken)?),
             ["send", size, record] => Outcome::Sent(sized(size, record)?),
             ["near", acknowledged] => Outcome::Acknowledged(number(acknowledged)?),
@@ -202,6 +228,7 @@ impl Display for Outcome {
         match self {
             Outcome::Station(answer) => write!(f, "station {answer}"),
             Outcome::Store(bytes) => write!(f, "store {bytes}"),
+            Outcome::Poked(offset) => write!(f, "poke {offset}"),
             Outcome::Offered(taken) => write!(f, "offer {taken}"),
             Outcome::Sent(record) => write!(f, "send {} {}", record.len(), hex::encode(record)),
             Outcome::Acknowledged(acknowledged) => write!(f, "near {acknowledged}"),
