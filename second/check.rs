@@ -46,6 +46,20 @@ impl Report {
         }
     }
 
+    /// Prints the counts as the last line, and before it those of the second program's checks on
+    /// itself, which are no part of them; the status to exit with.
+    pub fn finish_beside(&self, own: &Report) -> ExitCode {
+        println!(
+            "the second program on itself: {} held, {} failed, not counted",
+            own.passed, own.failed
+        );
+        let status = self.finish();
+        if own.failed > 0 {
+            return ExitCode::FAILURE;
+        }
+        status
+    }
+
     /// Prints the counts as the last line; the status to exit with.
     pub fn finish(&self) -> ExitCode {
         println!("{} passed, {} failed", self.passed, self.failed);

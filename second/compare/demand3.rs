@@ -5,11 +5,12 @@ use crate::numbers;
 use crate::pdu::layout;
 use crate::pdu::read::read;
 use crate::trunk::near::ROWS;
-use crate::trunk::record::{self, Kind, Record};
+use crate::trunk::record::{self, Kind, Record, PDU_SIZE_MAX, REPLY_SIZE};
 use crate::trunk::replay::End;
 use crate::trunk::script::{self, Line, Outcome};
 use crate::trunk::station::{self, Station};
 use std::collections::HashSet;
+use std::fmt::{self, Display, Formatter};
 
 #[derive(Debug, PartialEq, Eq)]
 pub enum Fault {
@@ -18,6 +19,15 @@ pub enum Fault {
     NotFair,
     /// A sentence that does not hold.
     Broken(String),
+}
+
+impl Display for Fault {
+    fn fmt(&self, f: &mut Formatter) -> fmt::Result {
+        match self {
+            Fault::NotFair => write!(f, "the script is not fair"),
+            Fault::Broken(what) => write!(f, "{what}"),
+        }
+    }
 }
 
 impl Fault {
@@ -29,8 +39,8 @@ impl Fault {
     }
 }
 
-/// Does the output for a script keep to demand 3?
-pub fn judge(input: &[u8], output: &str) -> Result<(), Fault> {
+/// Does the output for a script keep to demand 3? If so, the calls with what they gave.
+pub fn judge(input: &[u8], output: &str) -> Result<History, Fault> {
     let (lines, bad_line) = script::parse(input);
     if lines.is_empty() || bad_line.is_some() {
         return Err(Fault::NotFair);
@@ -46,7 +56,8 @@ pub fn judge(input: &[u8], output: &str) -> Result<(), Fault> {
     holds(
         end == history.end().to_string(),
         "demand 3: counts or station at the end",
-    )
+    )?;
+    Ok(history)
 }
 
 fn holds(holds: bool, sentence: &str) -> Result<(), Fault> {
@@ -58,7 +69,8 @@ fn holds(holds: bool, sentence: &str) -> Result<(), Fault> {
 }
 
 /// The list of calls as far as it was gone through.
-struct History {
+#[derive(Debug, PartialEq, Eq)]
+pub struct History {
     /// The PDUs of the offers not refused, as the writer gives them.
     accepted: Vec<Vec<u8>>,
     put_out: u32,
@@ -67,6 +79,8 @@ struct History {
     written: HashSet<Vec<u8>>,
     /// Reckoned by its rules from the fresh one.
     station: Station,
+    /// The reply that the last call wrote, if that call handed over record k.
+    reply_of_next: Option<Vec<u8>>,
 }
 
 impl History {
@@ -78,18 +92,70 @@ impl History {
             acknowledged: 0,
             written: HashSet::new(),
             station,
+            reply_of_next: None,
         }
     }
 
+    /// "Handing over record k and its reply makes acknowledged k + 1": the calls that do so, where k
+    /// is below accepted. Any other reply would break a sentence before it is handed over.
+    pub fn handover(&self) -> Option<Vec<Line>> {
+        let record = self.record(self.put_out)?;
+        let reply = record::head(Kind::Reply, self.put_out + 1);
+        let far = Line::Far {
+            record,
+            room: PDU_SIZE_MAX,
+            reply_room: REPLY_SIZE,
+        };
+        Some(vec![far, Line::Near(reply.to_vec())])
+    }
+
     fn step(&mut self, line: &Line, outcome: Option<&Outcome>) -> Result<(), Fault> {
-        if let Line::Near(record) | Line::Far { record, .. } = line {
-            if !self.written.contains(record) {
-                return Err(Fault::NotFair);
+        self.check_fair(line)?;
+        let hands_over = self.hands_over(line);
+        let hands_back =
+            matches!(line, Line::Near(reply) if self.reply_of_next.as_ref() == Some(reply));
+        self.note(line, outcome)?;
+        self.check_counts()?;
+        self.reply_of_next = None;
+        match outcome {
+            Some(Outcome::Delivered { reply, .. }) if hands_over => {
+                self.reply_of_next = Some(reply.clone());
             }
+            _ => holds(!hands_over, "record k, handed over, is put out")?,
         }
-        if let Line::Poke { .. } = line {
-            return Err(Fault::NotFair);
+        let acknowledged = Outcome::Acknowledged(self.put_out);
+        holds(
+            !hands_back || outcome == Some(&acknowledged),
+            "handing over record k and its reply makes acknowledged k + 1",
+        )
+    }
+
+    fn check_fair(&self, line: &Line) -> Result<(), Fault> {
+        let is_fair = match line {
+            Line::Near(record) | Line::Far { record, .. } => self.written.contains(record),
+            Line::Poke { .. } => false,
+            _ => true,
+        };
+        is_fair.then_some(()).ok_or(Fault::NotFair)
+    }
+
+    /// Record k arrives at the far end, with room in the lent buffers.
+    fn hands_over(&self, line: &Line) -> bool {
+        match line {
+            Line::Far {
+                record,
+                room,
+                reply_room,
+            } => {
+                let has_room = *room >= PDU_SIZE_MAX && *reply_room >= REPLY_SIZE;
+                has_room && self.record(self.put_out).as_ref() == Some(record)
+            }
+            _ => false,
         }
+    }
+
+    /// Takes a call and the line printed for it into the history.
+    fn note(&mut self, line: &Line, outcome: Option<&Outcome>) -> Result<(), Fault> {
         match (line, outcome) {
             (Line::Station { level, net }, Some(Outcome::Station(number))) => {
                 let (station, answer) = Station::new(*level, *net);
@@ -114,24 +180,28 @@ impl History {
             (_, Some(Outcome::Refused(..))) => {}
             _ => return holds(false, "the line printed is not of this call"),
         }
-        self.check_counts()
+        Ok(())
     }
 
     fn offered(&mut self, datagram: &[u8], number: u32) -> Result<(), Fault> {
         holds(number == self.accepted(), "the number of a PDU accepted")?;
         holds(read(datagram).is_ok(), "what is accepted is a PDU")?;
         self.accepted.push(layout::written_form(datagram));
+        // An offer writes its record into the store.
+        self.written.extend(self.record(number));
         Ok(())
     }
 
-    /// A send of i, unless refused, writes record i: kind, i, PDU i.
+    /// Record i: kind, i, PDU i.
+    fn record(&self, number: u32) -> Option<Vec<u8>> {
+        let pdu = self.accepted.get(number as usize)?;
+        let kind = Kind::carrying(&read(pdu).ok()?)?;
+        Some([&record::head(kind, number)[..], pdu].concat())
+    }
+
+    /// A send of i, unless refused, writes record i.
     fn sent(&mut self, number: u32, record: &[u8]) -> Result<(), Fault> {
-        let pdu = self.accepted.get(number as usize);
-        let kind = pdu.and_then(|pdu| Kind::carrying(&read(pdu).ok()?));
-        let expected = kind.zip(pdu).map(|(kind, pdu)| {
-            let head = record::head(kind, number);
-            [&head[..], pdu].concat()
-        });
+        let expected = self.record(number);
         holds(expected.as_deref() == Some(record), "the record sent")?;
         self.written.insert(record.to_vec());
         Ok(())

@@ -5,6 +5,7 @@ mod answers;
 pub mod datagrams;
 mod demand3;
 pub mod jobs;
+mod judge_check;
 mod known_cases;
 pub mod lister;
 mod outputs;

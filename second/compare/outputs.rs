@@ -34,9 +34,13 @@ pub struct Format {
 
 pub struct Law {
     pub name: &'static str,
-    /// In what the output for an input breaks the law.
-    pub breach: fn(&[u8], &str) -> Option<String>,
+    /// In what the output for an input breaks the law. The program may be run on further inputs;
+    /// the error is that it cannot be.
+    pub breach: fn(&[u8], &str, Run) -> Result<Option<String>, String>,
 }
+
+/// What the program prints for an input.
+pub type Run<'a> = &'a dyn Fn(&[u8]) -> Result<String, String>;
 
 /// What the two programs print for an input.
 struct Outputs {
@@ -50,14 +54,18 @@ struct Outputs {
 impl Outputs {
     /// The error is that the program cannot be run.
     fn of(format: &Format, program: &Path, input: &[u8]) -> Result<Self, String> {
+        let run = |input: &[u8]| program::run(program, &[], input);
         let own = (format.own)(input);
-        let other = program::run(program, &[], input)?;
+        let other = run(input)?;
         let lines = own.split('\n').zip(other.split('\n'));
         let same = lines.take_while(|(own, other)| own == other).count();
-        let law = format.law.as_ref();
+        let breach = match &format.law {
+            Some(law) => (law.breach)(input, &other, &run)?,
+            None => None,
+        };
         Ok(Outputs {
             difference: Some(same).filter(|_| own != other),
-            breach: law.and_then(|law| (law.breach)(input, &other)),
+            breach,
             own,
             other,
         })

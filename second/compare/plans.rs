@@ -48,12 +48,12 @@ pub fn run(planner: &Path, plancheck: &Path, seed: u64, count: u64) -> Result<Ex
         comparison.compare(&mut random, &rates)?;
     }
     comparison.tally.print();
-    let mut report = Report::default();
+    let (mut report, mut own) = (Report::default(), Report::default());
     comparison
         .tally
         .report(OFTEN.in_a_run_of(count), &mut report);
-    report.count(&known());
-    Ok(report.finish())
+    own.count(&known());
+    Ok(report.finish_beside(&own))
 }
 
 impl Comparison<'_> {

@@ -1,8 +1,9 @@
 //! Compares the replay program with the second program's own ends, and holds it to demand 3.
 
 use super::demand3::{self, Fault};
+use super::judge_check;
 use super::known_cases;
-use super::outputs::{Comparison, Format, Law};
+use super::outputs::{Comparison, Format, Law, Run};
 use super::tally::{Name, Often};
 use crate::check::{Claim, Report};
 use crate::generate::line_cases;
@@ -60,7 +61,7 @@ pub const REPLAY: Format = Format {
     ],
     answer,
     law: Some(Law {
-        name: "demand 3, in the outputs for fair scripts",
+        name: "demand 3, in the outputs for fair scripts and where they go on with record k and its reply",
         breach,
     }),
     pieces: |input| input.split_inclusive(|&byte| byte == b'\n').collect(),
@@ -122,11 +123,30 @@ fn moved_up(line: &Line, left_out: u32) -> Line {
     line
 }
 
-fn breach(input: &[u8], output: &str) -> Option<String> {
-    match demand3::judge(input, output) {
-        Err(Fault::Broken(sentence)) => Some(sentence),
-        Ok(()) | Err(Fault::NotFair) => None,
+/// Judges the output, and what is printed where the script goes on with record k and its reply.
+fn breach(input: &[u8], output: &str, run: Run) -> Result<Option<String>, String> {
+    let longer = match demand3::judge(input, output) {
+        Err(Fault::Broken(sentence)) => return Ok(Some(sentence)),
+        Err(Fault::NotFair) => None,
+        Ok(history) => history.handover().map(|calls| going_on(input, &calls)),
+    };
+    let Some(longer) = longer else {
+        return Ok(None);
+    };
+    let fault = demand3::judge(&longer, &run(&longer)?).err();
+    Ok(fault.map(|fault| format!("with record k and its reply handed over at the end, {fault}")))
+}
+
+/// The script with these lines behind it.
+pub fn going_on(input: &[u8], lines: &[Line]) -> Vec<u8> {
+    let mut longer = input.to_vec();
+    if longer.last().is_some_and(|&byte| byte != b'\n') {
+        longer.push(b'\n');
     }
+    for line in lines {
+        longer.extend(format!("{line}\n").bytes());
+    }
+    longer
 }
 
 /// How much was compared.
@@ -143,12 +163,60 @@ impl Extent {
         self.scripts += 1;
         self.calls += calls as u64;
     }
+
+    fn is_half_of(&self, all: &Extent) -> bool {
+        2 * self.scripts >= all.scripts && 2 * self.calls >= all.calls
+    }
 }
 
-/// A printed line of a call; the others are of the first two lines and of the end.
+/// A printed line of a call; the others are of the first two lines, of somebody else's writing into
+/// the store, and of the end.
 fn is_call(line: &str) -> bool {
     let (about, _) = answer(line);
-    !["station", "store", "end"].contains(&about.as_str())
+    !["station", "store", "poke", "end"].contains(&about.as_str())
+}
+
+/// All scripts, those that are fair, and of these the ones that leave a record to hand over.
+#[derive(Default)]
+struct Extents {
+    all: Extent,
+    fair: Extent,
+    handed_over: Extent,
+}
+
+impl Extents {
+    /// Adds a script with what is printed for it.
+    fn add(&mut self, script: &[u8], output: &str) {
+        self.all.add(output);
+        let judged = demand3::judge(script, output);
+        if judged != Err(Fault::NotFair) {
+            self.fair.add(output);
+        }
+        if judged.is_ok_and(|history| history.handover().is_some()) {
+            self.handed_over.add(output);
+        }
+    }
+
+    /// Counts a check that enough scripts are fair, and one that enough of these leave a record.
+    fn report(&self, report: &mut Report) {
+        let Extents {
+            all,
+            fair,
+            handed_over,
+        } = self;
+        let mut claim = Claim::new(format!(
+            "{} of {} scripts and {} of {} calls are fair, half or more",
+            fair.scripts, all.scripts, fair.calls, all.calls
+        ));
+        claim.sample(fair.is_half_of(all), || "fewer".to_string());
+        report.count(&claim);
+        let mut claim = Claim::new(format!(
+            "{} of {} fair scripts leave a record to hand over, half or more",
+            handed_over.scripts, fair.scripts
+        ));
+        claim.sample(handed_over.is_half_of(fair), || "fewer".to_string());
+        report.count(&claim);
+    }
 }
 
 /// Runs the whole comparison and prints the outcome.
@@ -159,33 +227,20 @@ pub fn run(program: &Path, seed: u64, count: u64) -> Result<ExitCode, String> {
     for script in line_cases::scripts() {
         comparison.compare(script.as_bytes())?;
     }
-    let (mut all, mut fair) = (Extent::default(), Extent::default());
-    while all.calls < count {
+    let mut extents = Extents::default();
+    while extents.all.calls < count {
         let script = scripts::script(seeds.next());
-        let own = replay::run(&script);
         comparison.compare(&script)?;
-        all.add(&own);
-        if demand3::judge(&script, &own) != Err(Fault::NotFair) {
-            fair.add(&own);
-        }
-        if all.scripts % PROGRESS_STEP == 0 {
-            eprintln!("compared {} scripts, {} calls", all.scripts, all.calls);
+        extents.add(&script, &replay::run(&script));
+        let Extent { scripts, calls } = extents.all;
+        if scripts % PROGRESS_STEP == 0 {
+            eprintln!("compared {scripts} scripts, {calls} calls");
         }
     }
-    let mut report = Report::default();
+    let (mut report, mut own) = (Report::default(), Report::default());
     comparison.report(OFTEN.in_a_run_of(count), &mut report);
-    report.count(&half_are_fair(&all, &fair));
-    known_cases::run(&mut report);
-    Ok(report.finish())
-}
-
-fn half_are_fair(all: &Extent, fair: &Extent) -> Claim {
-    let counts = format!(
-        "{} of {} scripts and {} of {} calls are fair",
-        fair.scripts, all.scripts, fair.calls, all.calls
-    );
-    let mut claim = Claim::new(format!("{counts}, half or more"));
-    let holds = 2 * fair.scripts >= all.scripts && 2 * fair.calls >= all.calls;
-    claim.sample(holds, || "fewer".to_string());
-    claim
+    extents.report(&mut own);
+    known_cases::run(&mut own);
+    judge_check::run(&mut own);
+    Ok(report.finish_beside(&own))
 }

@@ -15,7 +15,8 @@ use crate::trunk::station::{Station, ABSENCE_LIMIT};
 const LENGTHS: [u64; 5] = [10, 50, 200, 500, 1_500];
 /// Rarely does anything happen with a store of a wrong length.
 const LENGTH_WITHOUT_STORE: u64 = 40;
-/// Of every so many scripts one is not fair, and of every so many of these one is poked.
+/// Of every so many scripts one is not fair; of every so many of these one is poked, and the others
+/// have invented arrivals.
 const UNFAIR_SHARE: u64 = 3;
 const POKED_SHARE: u64 = 3;
 /// Of every so many calls of a poked script one is a poke.

@@ -1,0 +1,138 @@
+//! The judge of demand 3 on a script of known calls: it takes what the second program prints for
+//! them, and finds each slip that is made in it.
+
+use super::demand3::{self, Fault, History};
+use super::replay::going_on;
+use crate::check::{Claim, Report};
+use crate::sample::units::{signal, transmitter, FINE_MODULATION};
+use crate::trunk::record::{self, Kind};
+use crate::trunk::replay;
+use crate::trunk::script::Line;
+use crate::trunk::word::Word;
+
+const NET: u8 = 5;
+
+/// Two PDUs are accepted; the first is put out and acknowledged.
+fn script() -> Vec<u8> {
+    let first = transmitter(1, FINE_MODULATION);
+    let arrival = Line::Far {
+        record: [&record::head(Kind::Transmitter, 0)[..], &first].concat(),
+        room: 180,
+        reply_room: 5,
+    };
+    let send = Line::Send {
+        number: 0,
+        room: 185,
+    };
+    let lines = [
+        Line::Station { level: 0, net: NET },
+        Line::Offer(first),
+        send,
+        arrival.clone(),
+        arrival,
+        Line::Near(record::head(Kind::Reply, 1).to_vec()),
+        Line::Offer(signal(1, NET, &[Word::initial(0, 0)])),
+        Line::Clock(10),
+    ];
+    going_on(b"", &lines)
+}
+
+/// Places of the printed lines: those of the script, of the handover of record 1 and its reply, and
+/// of the end.
+const OFFER: usize = 1;
+const SEND: usize = 2;
+const DELIVERY: usize = 3;
+const REPEAT: usize = 4;
+const REPLY: usize = 5;
+const CLOCK: usize = 7;
+const HANDOVER: usize = 8;
+const HANDOVER_REPLY: usize = 9;
+const COUNTS: usize = 10;
+const STATION: usize = 11;
+
+/// The sentences that slips break.
+const NUMBER: &str = "the number of a PDU accepted";
+const RECORD: &str = "the record sent";
+const ORDER: &str = "put out are the first accepted, in order";
+const ANSWER: &str = "the station's answer";
+const CLOCK_ANSWER: &str = "the station's answer to the clock";
+const REPLIES: &str = "a reply has the count of those put out";
+const ACKNOWLEDGED: &str = "the acknowledged count";
+const PUT_OUT: &str = "record k, handed over, is put out";
+const NEXT: &str = "handing over record k and its reply makes acknowledged k + 1";
+const END: &str = "counts or station at the end";
+
+/// A text in the line of a place, what stands there instead, and the sentence that it breaks.
+const SLIPS: [(usize, &str, &str, &str); 11] = [
+    (OFFER, "offer 0", "offer 1", NUMBER),
+    (SEND, " 1000000000", " 1000000001", RECORD),
+    (DELIVERY, " 06", " 05", ORDER),
+    (DELIVERY, " 40 ", " 41 ", ANSWER),
+    (REPEAT, "2000000001", "2000000000", REPLIES),
+    (REPLY, "near 1", "near 0", ACKNOWLEDGED),
+    (CLOCK, "clock 46", "clock 36", CLOCK_ANSWER),
+    (HANDOVER, " 2000000002", " 2000000001", REPLIES),
+    (HANDOVER_REPLY, "near 2", "near 1", ACKNOWLEDGED),
+    (COUNTS, "counts 2 2 2", "counts 2 1 2", END),
+    (STATION, "fine", "coarse", END),
+];
+
+/// The same of whole lines.
+const OTHER_LINES: [(usize, &str, &str); 5] = [
+    (DELIVERY, "far refused 16", PUT_OUT),
+    (DELIVERY, "far early 2000000000", PUT_OUT),
+    (HANDOVER, "far refused 22", PUT_OUT),
+    (HANDOVER, "far repeat 2000000001", PUT_OUT),
+    (HANDOVER_REPLY, "near refused 27", NEXT),
+];
+
+/// Counts the checks of the judge.
+pub fn run(report: &mut Report) {
+    let script = script();
+    report.count(&leaves_alone(&script));
+    let mut claim = Claim::new("the judge of demand 3 hands over record 1 and its reply");
+    let judged = demand3::judge(&script, &replay::run(&script));
+    let calls = judged.as_ref().ok().and_then(History::handover);
+    claim.sample(calls.is_some(), || format!("{judged:?}"));
+    let longer = going_on(&script, &calls.unwrap_or_default());
+    let printed = replay::run(&longer);
+    let judged = demand3::judge(&longer, &printed);
+    claim.sample(judged.is_ok(), || format!("{judged:?}"));
+    report.count(&claim);
+    report.count(&finds_slips(&longer, &printed));
+}
+
+fn finds_slips(script: &[u8], printed: &str) -> Claim {
+    let mut claim = Claim::new("the judge of demand 3 finds each slip");
+    let lines: Vec<&str> = printed.lines().collect();
+    let mut find = |place: usize, slip: &str, sentence: &str| {
+        let mut lines = lines.clone();
+        lines[place] = slip;
+        let fault = demand3::judge(script, &(lines.join("\n") + "\n")).err();
+        let found = matches!(&fault, Some(Fault::Broken(what)) if what.ends_with(sentence));
+        claim.sample(found, || format!("'{slip}': {fault:?}, not '{sentence}'"));
+    };
+    for (place, from, to, sentence) in SLIPS {
+        find(place, &lines[place].replacen(from, to, 1), sentence);
+    }
+    for (place, slip, sentence) in OTHER_LINES {
+        find(place, slip, sentence);
+    }
+    claim
+}
+
+/// Demand 3 does not speak of a record that no call wrote, nor of a store that somebody else writes.
+fn leaves_alone(script: &[u8]) -> Claim {
+    let mut claim = Claim::new("the judge of demand 3 leaves alone what is not fair");
+    let invented = Line::Near(record::head(Kind::Reply, 2).to_vec());
+    let poke = Line::Poke {
+        offset: 0,
+        bytes: vec![0],
+    };
+    for line in [invented, poke] {
+        let script = going_on(script, &[line]);
+        let judged = demand3::judge(&script, &replay::run(&script));
+        claim.sample(judged == Err(Fault::NotFair), || format!("{judged:?}"));
+    }
+    claim
+}
