@@ -96,8 +96,8 @@ impl History {
         }
     }
 
-    /// "Handing over record k and its reply makes acknowledged k + 1": the calls that do so, where k
-    /// is below accepted. Any other reply would break a sentence before it is handed over.
+    /// "Handing over record k and its reply makes acknowledged k + 1": the calls that do so, where
+    /// k is below accepted. Any other reply would break a sentence before it is handed over.
     pub fn handover(&self) -> Option<Vec<Line>> {
         let record = self.record(self.put_out)?;
         let reply = record::head(Kind::Reply, self.put_out + 1);

@@ -92,9 +92,11 @@ pub fn run(report: &mut Report) {
     report.count(&leaves_alone(&script));
     let mut claim = Claim::new("the judge of demand 3 hands over record 1 and its reply");
     let judged = demand3::judge(&script, &replay::run(&script));
-    let calls = judged.as_ref().ok().and_then(History::handover);
-    claim.sample(calls.is_some(), || format!("{judged:?}"));
-    let longer = going_on(&script, &calls.unwrap_or_default());
+    let Some(calls) = judged.as_ref().ok().and_then(History::handover) else {
+        claim.sample(false, || format!("{judged:?}"));
+        return report.count(&claim);
+    };
+    let longer = going_on(&script, &calls);
     let printed = replay::run(&longer);
     let judged = demand3::judge(&longer, &printed);
     claim.sample(judged.is_ok(), || format!("{judged:?}"));
@@ -121,7 +123,7 @@ fn finds_slips(script: &[u8], printed: &str) -> Claim {
     claim
 }
 
-/// Demand 3 does not speak of a record that no call wrote, nor of a store that somebody else writes.
+/// Demand 3 speaks neither of a record that no call wrote nor of a store that somebody else writes.
 fn leaves_alone(script: &[u8]) -> Claim {
     let mut claim = Claim::new("the judge of demand 3 leaves alone what is not fair");
     let invented = Line::Near(record::head(Kind::Reply, 2).to_vec());

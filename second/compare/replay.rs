@@ -61,7 +61,7 @@ pub const REPLAY: Format = Format {
     ],
     answer,
     law: Some(Law {
-        name: "demand 3, in the outputs for fair scripts and where they go on with record k and its reply",
+        name: "demand 3, for fair scripts and where they go on with record k and its reply",
         breach,
     }),
     pieces: |input| input.split_inclusive(|&byte| byte == b'\n').collect(),

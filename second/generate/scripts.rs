@@ -269,7 +269,7 @@ impl Draft {
         }
     }
 
-    /// Somebody else writes the store. Most often the next poke undoes it, so that PDUs get through.
+    /// Somebody else writes the store. The next poke most often undoes it, so that PDUs pass.
     fn poke(&mut self) -> Line {
         let undo = self.undo.take();
         if let Some(undo) = undo.filter(|_| !self.random.one_in(4)) {
@@ -288,7 +288,7 @@ impl Draft {
         Line::Poke { offset, bytes }
     }
 
-    /// Most often the kind of a row that is held: unknown, that of a reply, or another that is known.
+    /// Most often the kind of a row that is held: unknown, that of a reply, or any that is known.
     fn poke_row(&mut self) -> (usize, Vec<u8>) {
         let row = near::row(self.number_to_send());
         let kinds: Vec<u8> = Kind::all().map(Kind::byte).collect();
