@@ -4,7 +4,7 @@
 use Prim.Native.Nat.{ℕ, zero, suc, _+_, _*_, _/_, _%_, _^_, _≤_, _<_}
 use mathlib.Core.Path.{_≡_, refl, sym, ap, ap₂, _∙_}
 use mathlib.Core.Bool.{Bool, true, false, _&&_}
-use mathlib.Core.List.{List, [], _∷_, _++_, append-assoc}
+use mathlib.Core.List.{List, [], _∷_, _++_, append-assoc, append-nil}
 use lib.ListN.{length, getD, take, drop, set, replicate, length-append, length-drop}
 use lib.Seq.{getD-append-add, getD-at, getD-drop, take-suc, length-take-le, sets-eq}
 use lib.Arith.{digits-div, digits-mod, mod-mul}
@@ -13,7 +13,7 @@ use native.Mathlib.Nat.{add-zero, add-suc, suc-add, add-assoc, mod-one, pow-suc,
 use native.Mathlib.Numerals.{add-one}
 use native.Mathlib.Omega.{arith}
 use borrow.Author.Tests.{eq-eqb, ne-eqb}
-use Rattle.wire.specs.Bytes.{num, big, splice, allZero, Bytes}
+use Rattle.wire.specs.Bytes.{num, big, row, splice, allZero, Bytes}
 
 pub length-big : (w v : ℕ) → length (big w v) ≡ w
 length-big zero v = refl
@@ -37,6 +37,19 @@ beside at n a b l long second first =
     second
     ∙ ap₂ (λ (k : ℕ) (m : List ℕ). splice (at + k) b m) (sym long) first
     ∙ splice-append at a b l
+
+-- three numbers of w bytes written side by side
+pub three-beside : {x y z : List ℕ} (w at a b c : ℕ) (l : List ℕ)
+    → x ≡ splice at (big w a) l
+    → y ≡ splice (at + w) (big w b) x
+    → z ≡ splice (at + (w + w)) (big w c) y
+    → z ≡ splice at (row w (a ∷ b ∷ c ∷ [])) l
+three-beside w at a b c l first second third =
+    let pair : length (big w a ++ big w b) ≡ w + w =
+    length-append (big w a) (big w b) ∙ ap₂ _+_ (length-big w a) (length-big w b) in
+    beside at (w + w) (big w a ++ big w b) (big w c) l pair third (beside at w (big w a) (big w b) l (length-big w a) second first)
+    ∙ ap (λ (bytes : List ℕ). splice at bytes l)
+    (append-assoc (big w a) (big w b) (big w c) ∙ ap (λ (rest : List ℕ). big w a ++ (big w b ++ rest)) (sym (append-nil (big w c))))
 
 -- a number behind a prefix is read as from its own start
 pub num-append : (w i : ℕ) (p q : List ℕ) → num w (length p + i) (p ++ q) ≡ num w i q

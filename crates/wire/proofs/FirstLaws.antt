@@ -7,12 +7,8 @@ use mathlib.Core.List.{List, [], _∷_, _++_}
 use lib.Dec.{eqb}
 use borrow.Author.Tests.{eqb-false, not-true}
 use Rattle.wire.specs.First.{Refusal, _given-when_, first, numbered}
+use Rattle.wire.specs.Plain.{Unbroken}
 use Rattle.wire.proofs.TableLaws.{both-true}
-
--- each rule of a list is unbroken, one by one
-abbrev pub Unbroken : List Refusal → Type 0
-Unbroken [] = Unit {0}
-Unbroken ((n given-when broken) ∷ rest) = (broken ≡ false) × Unbroken rest
 
 -- where no rule of a list is broken, each is unbroken
 pub unbroken : (rs : List Refusal) → numbered rs ≡ true → first rs ≡ 0 → Unbroken rs

@@ -7,3 +7,4 @@ pub mod FitLaws
 pub mod PartLaws
 pub mod ClearLaws
 pub mod AppendLaws
+pub mod PlainLaws

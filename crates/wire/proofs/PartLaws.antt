@@ -47,7 +47,7 @@ zero-of-bytes : (w o : ℕ) (d : List ℕ) → ((i : ℕ) → i < w → getD d (
 zero-of-bytes zero o d h = refl
 zero-of-bytes (suc w) o d h = omega (arith, zero-of-bytes w o d (λ i l. h i (omega arith)), h w (omega arith))
 
-all-zero : (d : List ℕ) → allZero d ≡ true → (i : ℕ) → getD d i 0 ≡ 0
+pub all-zero : (d : List ℕ) → allZero d ≡ true → (i : ℕ) → getD d i 0 ≡ 0
 all-zero [] e i = refl
 all-zero (x ∷ xs) e zero = eqb-true x 0 (both-true (eqb x 0) (allZero xs) e .0)
 all-zero (x ∷ xs) e (suc i) = all-zero xs (both-true (eqb x 0) (allZero xs) e .1) i

@@ -3,3 +3,4 @@ pub mod Bytes
 pub mod Table
 pub mod First
 pub mod Rules
+pub mod Plain

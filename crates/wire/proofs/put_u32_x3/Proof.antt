@@ -1,10 +1,7 @@
--- `wire::put_u32_x3` meets its contract: the numbers side by side are one splice (`beside`).
+-- `wire::put_u32_x3` meets its contract: the numbers side by side are one splice (`three-beside`).
 -- Assumes nothing.
-use mathlib.Core.Path.{refl}
-use mathlib.Core.List.{_++_}
 use denote.Ref.{now}
-use Rattle.wire.specs.Bytes.{big}
-use Rattle.wire.proofs.ByteLaws.{beside}
+use Rattle.wire.proofs.ByteLaws.{three-beside}
 use borrow.Author.Needs.{needs}
 use Rattle.wire.proofs.put_u32_x3.Statement.{statement}
 use Rattle.wire.proofs.put_u32_x3.Tie as tie
@@ -33,10 +30,10 @@ returns c =
     let second = third .before .before .before .before in
     let first = second .before .before .before .before in
     let given = first .before .before .before .args in
-    let a = big 4 (given .a) in
-    let b = big 4 (given .b) in
-    beside (given .at) _ (a ++ b) (big 4 (given .c)) (now (given .out)) refl (third .put-u323 .ensures)
-    (beside (given .at) _ a b (now (given .out)) refl (second .put-u322 .ensures) (first .put-u32 .ensures))
+    three-beside 4 (given .at) (given .a) (given .b) (given .c) (now (given .out))
+    (first .put-u32 .ensures)
+    (second .put-u322 .ensures)
+    (third .put-u323 .ensures)
 
 pub put-u32-x3-spec : {M : Type 1} → statement M
 put-u32-x3-spec =
