@@ -1,2 +1,3 @@
 -- What the word of places means.
 pub mod Places
+pub mod Plain
