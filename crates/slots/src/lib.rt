@@ -1,6 +1,7 @@
 // Handing out slots (document 02, R-14): the check of a plan from any source. The planner is in a module of its own, and the check uses
 // nothing of it.
 pub mod planner;
+mod refusals;
 
 ghost use mathlib.Core.Path.{_≡_};
 ghost use Prim.Native.Nat.{_+_, _*_, _%_, _≤_, _<_, max};
@@ -48,12 +49,12 @@ fn rate_refusal(rates: &[u8]) -> u8
     ensures { λ r. ⌜ r ≡ first (rateRules (now (rates .entry))) ⌝ }
 {
     if 64 < rates.len() {
-        return 61;
+        return refusals::MANY_RATES;
     }
     if all_low(rates) {
         return 0;
     }
-    62
+    refusals::HIGH_RATE
 }
 
 // 2 to the 15 − r; 1 for a rate above 15.

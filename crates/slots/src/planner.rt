@@ -11,6 +11,7 @@ ghost use Rattle.slots.specs.Planning.{planOf, planRules, planned, planL
 ghost use Rattle.slots.specs.Plain.{Pass};
 use super::Block;
 use super::Planned;
+use super::refusals;
 
 // 2 to the rate.
 fn power(rate: u8) -> u32
@@ -149,10 +150,10 @@ fn plan_refusal(rates: &[u8], room: usize) -> u8
         return number;
     }
     if 98304 < wanted_slots(rates) {
-        return 63;
+        return refusals::NO_PLAN;
     }
     if room < 4 * rates.len() {
-        return 16;
+        return refusals::NO_ROOM;
     }
     0
 }
