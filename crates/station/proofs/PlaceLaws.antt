@@ -14,6 +14,7 @@ use Rattle.occupancy.proofs.LeastLaws.{least-is, least-below, least-here}
 use Rattle.occupancy.proofs.WordLaws.{lowest-is-free, below-is-held}
 use Rattle.pdu.specs.declared.Word.{Word}
 use Rattle.pdu.specs.declared.Word.the-variants.{Absent, Here}
+use Rattle.station.specs.Numbers.{anyId}
 use Rattle.station.specs.Units.{unitAt, holds, placeOf, known}
 use Rattle.station.specs.Plain.{Sender, Stranger, LowestFree, Full, Agree, Clash, IsJ00, IsPpli, IsOther}
 use Rattle.station.specs.Hearing.{otherId, labelled, messageOf, isFine}
@@ -82,12 +83,12 @@ none-free s e i l = below-is-held (s .used) i (omega (arith, ltb-false (freePlac
 module _ (own sender : ℕ) where
   pub clash : otherId own sender ≡ true → Clash own sender
   unfolding otherId
-  clash e = go (eqb own sender) (eqb own 0) (eqb sender 0) refl refl refl e
+  clash e = go (eqb own sender) (eqb own anyId) (eqb sender anyId) refl refl refl e
     where
       go : (a b c : Bool)
           → eqb own sender ≡ a
-          → eqb own 0 ≡ b
-          → eqb sender 0 ≡ c
+          → eqb own anyId ≡ b
+          → eqb sender anyId ≡ c
           → (not (b || c) && not a) ≡ true
           → Clash own sender
       go true true c x y z f = absurd (true≢false (sym f))
@@ -99,12 +100,12 @@ module _ (own sender : ℕ) where
 
   pub agree : otherId own sender ≡ false → Agree own sender
   unfolding otherId
-  agree e = go (eqb own sender) (eqb own 0) (eqb sender 0) refl refl refl e
+  agree e = go (eqb own sender) (eqb own anyId) (eqb sender anyId) refl refl refl e
     where
       go : (a b c : Bool)
           → eqb own sender ≡ a
-          → eqb own 0 ≡ b
-          → eqb sender 0 ≡ c
+          → eqb own anyId ≡ b
+          → eqb sender anyId ≡ c
           → (not (b || c) && not a) ≡ false
           → Agree own sender
       go true b c x y z f = inl (eqb-true _ _ x)

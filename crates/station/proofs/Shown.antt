@@ -5,8 +5,9 @@ use mathlib.Core.Path.{_≡_, refl}
 use mathlib.Core.Bool.{Bool, true, false, _&&_}
 use lib.Dec.{ltb}
 use borrow.Author.Tests.{lt-ltb, ltb-true}
+use native.Mathlib.Omega.{arith}
 use Rattle.station.proofs.ReaderLaws.{both-true}
-use Rattle.occupancy.specs.Places.{places, held}
+use Rattle.occupancy.specs.Places.{places, held, count}
 use Rattle.station.specs.Units.{placeOf, known, seenOf, placeAt}
 use Rattle.station.specs.Plain.{HeldAt, Stranger}
 use Rattle.station.specs.Claims.{Shown}
@@ -31,11 +32,12 @@ module _ (s : Station) where
       go false e = refl
 
   pub shown : Shown s
-  unfolding seenOf placeAt
+  unfolding seenOf placeAt count
   shown = record {
     key-known = λ key i from. rw (sender-place s key i from, lt-ltb _ _ (from .there .place));
     key-unknown = λ key alone. rw (not-known key alone);
     place-held = λ i h. rw (lt-ltb _ _ (h .place), h .taken);
     place-free = λ i none. rw (not-held i none);
+    number = omega arith;
     states = (refl, refl, refl);
   }

@@ -20,6 +20,7 @@ use Rattle.pdu.specs.declared.Transmitter.{Transmitter}
 use Rattle.pdu.specs.declared.Signal.{Signal}
 use Rattle.pdu.specs.declared.Reading.{Reading}
 use Rattle.pdu.specs.declared.Reading.the-variants.{Refused, Transmitter as aTransmitter, Signal as aSignal}
+use Rattle.station.specs.Numbers.{absence}
 use Rattle.station.specs.Units.{levelOf, netOf, idOf, stateOf, clockOf, keyOf, blank, unitAt, placeOf, known, withUnit, withNew}
 use Rattle.station.specs.Plain.{Sized, LowestFree}
 use Rattle.station.specs.Hearing.{answering, unless, newUnit, renewed, enter, renew, hearTransmitter, otherId, senderOf, signalRules}
@@ -118,15 +119,15 @@ kept-inside was state id old = (
 renewed-row : (s : Station) (i : ℕ) (t : Transmitter)
     → Sized s
     → i < places
-    → Renewed s i t (withUnit s i (renewed (unitAt s i) t))
+    → Renewed s i t (renew s i t .station)
+unfolding renew
 renewed-row s i t sized l =
     let old = unitAt s i in
-    let u = renewed old t in
-    let here = stored s i u sized l in
+    let here = stored s i _ sized l in
     record {
       own = refl;
       word = refl;
-      others = same-else s i u;
+      others = same-else s i _;
       key = ap (λ (v : Unit). v .key) here;
       level = ap (λ (v : Unit). v .level) here;
       state = ap (λ (v : Unit). v .state) here;
@@ -188,8 +189,8 @@ joined-row s u =
 
 stays-held : (was : Bool) (t last : ℕ) → ((was && not (silent t last)) ≡ true) ↔ ((was ≡ true) × (t - last < 60))
 stays-held was t last = (
-  λ e. let w = both-true was (not (silent t last)) e in (w .0, leb-false _ _ (not-true (silent t last) (w .1))),
-  λ w. rw (w .0, lt-leb _ (t - last) (w .1)),
+  λ e. let w = both-true was (not (silent t last)) e in (w .0, omega (arith, leb-false absence (t - last) (not-true (silent t last) (w .1)))),
+  λ w. rw (w .0, lt-leb absence (t - last) (omega (arith, w .1))),
 )
 
 ticked-row : (s : Station) (t : ℕ) → Ticked s t (atTime s t)
@@ -231,7 +232,7 @@ module _ (s : Station) (sized : Sized s) where
   unfolding hearMessage
   message-row d g i e p NetEntry m =
       let says = j00-said (g .network .«message_type») (firstWord d) m in
-      by-last (Tabled s (datagram d)) s 34 (eqb (unitAt s i .state) _) (answering 42 (afterJ00 s (unitAt s i))) refl
+      by-last (Tabled s (datagram d)) s _ _ _ refl
       (λ b. nothing (not-fine g i e p (inl says) (eqb-false _ _ b)))
       (λ b. joined g i e p says (eqb-true _ _ b) (joined-row s (unitAt s i)))
   message-row d g i e p Ppli m =
@@ -279,6 +280,6 @@ module _ (s : Station) (sized : Sized s) where
   unfolding heard clocked
   only-by-rules (datagram d) = datagram-row d (reading d) refl
   only-by-rules (time t) =
-      by-rule (Tabled s (time t)) s 36 (ltb t (clockOf s)) [] (answering 46 (atTime s t)) refl
+      by-rule (Tabled s (time t)) s _ _ [] _ refl
       (λ b. nothing (back (ltb-true _ _ b)))
       (λ b. ticked (ltb-false _ _ b) (ticked-row s t))

@@ -1,17 +1,18 @@
 -- What the station's theorems claim. Each is proved under its own name in small letters: OnlyByRules by only-by-rules, and so on.
-use Prim.Native.Nat.{ℕ, _-_, _<_, _≤_}
+use Prim.Native.Nat.{ℕ, _+_, _-_, _<_, _≤_}
 use mathlib.Core.Path.{_≡_}
 use mathlib.Core.Bool.{true}
 use mathlib.Core.List.{List, _∷_}
 use mathlib.Core.Logic.{_⊎_, _↔_}
+use Rattle.wire.specs.Bytes.{num}
 use Rattle.occupancy.specs.Places.{held}
 use Rattle.pdu.specs.Reading.{reading}
 use Rattle.pdu.specs.declared.Header.{Header}
 use Rattle.pdu.specs.declared.Transmitter.{Transmitter}
 use Rattle.pdu.specs.declared.Signal.{Signal}
 use Rattle.pdu.specs.declared.Reading.the-variants.{Refused, Transmitter as aTransmitter}
-use Rattle.station.specs.Units.{levelOf, netOf, idOf, stateOf, clockOf, keyOf, made, stateNumber, unitAt, seenOf, placeAt}
-use Rattle.station.specs.Plain.{Sized, NoneBeyond, HeldAt, Sender, Stranger, Clash}
+use Rattle.station.specs.Units.{levelOf, netOf, idOf, stateOf, clockOf, keyOf, made, stateNumber, unitAt, unitsHeld, seenOf, placeAt}
+use Rattle.station.specs.Plain.{Sized, NoneBeyond, HeldAt, oneAt, Sender, Stranger, Clash}
 use Rattle.station.specs.Hearing.{answering, heard}
 use Rattle.station.specs.Runs.{Call, datagram, called, after}
 use Rattle.station.specs.Table.{IsSignal, Passed, SaysJ00, Table}
@@ -60,14 +61,25 @@ pub record SameKey (h h′ : Header) : Type 0 where
   pub entity : keyOf h ≡ keyOf h′ → h .entity ≡ h′ .entity
   pub radio : keyOf h ≡ keyOf h′ → h .radio ≡ h′ .radio
 
+-- The key of a PDU that was read is the number in bytes 12 to 19 of its datagram (01: site, application, entity and radio "together are the
+-- unit's key").
+pub record KeyInBytes (d : List ℕ) : Type 0 where
+  pub of-transmitter : (t : Transmitter) → reading d ≡ aTransmitter t → keyOf (t .header) ≡ num 8 12 d
+  pub of-signal : (g : Signal) → IsSignal d g → keyOf (g .header) ≡ num 8 12 d
+
 -- ---- what others see of a station
 
--- A key is shown with its unit's entry exactly where it is known, and a place with its entry exactly where it is held; each state has its number.
+-- A key is shown with its unit's entry exactly where it is known, and a place with its entry exactly where it is held; the number of units is
+-- that of the held places; each state has its number.
 pub record Shown (s : Station) : Type 0 where
   pub key-known : (key i : ℕ) → Sender s key i → seenOf s key ≡ Known (unitAt s i .inside) (unitAt s i .last)
   pub key-unknown : (key : ℕ) → Stranger s key → seenOf s key ≡ Unknown
   pub place-held : (i : ℕ) → HeldAt s i → placeAt s i ≡ Held (unitAt s i)
   pub place-free : (i : ℕ) → (HeldAt s i → ⊥) → placeAt s i ≡ Free
+  pub number :
+      unitsHeld s
+      ≡ oneAt s 0 + oneAt s 1 + oneAt s 2 + oneAt s 3 + oneAt s 4 + oneAt s 5 + oneAt s 6 + oneAt s 7
+      + oneAt s 8 + oneAt s 9 + oneAt s 10 + oneAt s 11 + oneAt s 12 + oneAt s 13 + oneAt s 14 + oneAt s 15
   pub states : (stateNumber Waiting ≡ 0) × (stateNumber Coarse ≡ 2) × (stateNumber Fine ≡ 3)
 
 -- ---- one call

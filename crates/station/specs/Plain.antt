@@ -2,7 +2,7 @@
 -- They share no test and no named number with the rules that compute; the theorems join the two.
 use Prim.Native.Nat.{ℕ, _^_, _<_}
 use mathlib.Core.Path.{_≡_}
-use mathlib.Core.Bool.{true, false}
+use mathlib.Core.Bool.{true, false, cond}
 use mathlib.Core.Logic.{_⊎_}
 use lib.ListN.{length}
 use Rattle.occupancy.specs.Places.{held}
@@ -23,6 +23,10 @@ NoneBeyond s = s .used < 2 ^ 16
 pub record HeldAt (s : Station) (i : ℕ) : Type 0 where
   pub place : i < 16
   pub taken : held (s .used) i ≡ true
+
+-- 1 where place i is held, else 0.
+abbrev pub oneAt : Station → ℕ → ℕ
+oneAt s i = cond (held (s .used) i) 1 0
 
 -- The unit with this key stands in place i: the place is held, its entry has the key, and no lower place is held with it.
 pub record Sender (s : Station) (key i : ℕ) : Type 0 where
