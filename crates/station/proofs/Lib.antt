@@ -1,5 +1,6 @@
 -- Laws and theorems of the station that belong to no one function.
 pub mod ReaderLaws
+pub mod InBytes
 pub mod PlaceLaws
 pub mod PartLaws
 pub mod Table

@@ -9,10 +9,11 @@ use Rattle.pdu.specs.Reading.{reading}
 use Rattle.pdu.specs.declared.Reading.the-variants.{Refused}
 use Rattle.pdu.proofs.Answers.{refuses-as}
 use Rattle.pdu.proofs.ReadLaws.{refusal-apart}
--- two tests joined, and a test of two numbers, opened; where a taken PDU's fields, and a Signal's body, stand
+-- two tests joined, and a test of two numbers, opened; where a taken PDU's fields, a Signal's body and a number in it stand
 pub use Rattle.wire.proofs.TableLaws.{both-true}
 pub use Rattle.wire.proofs.RuleLaws.{differs, agrees}
-pub use Rattle.pdu.proofs.FieldLaws.{transmitter-fields, signal-fields}
+pub use Rattle.wire.proofs.PartLaws.{num-part}
+pub use Rattle.pdu.proofs.FieldLaws.{transmitter-fields, signal-fields, word-parts}
 pub use Rattle.pdu.proofs.ReadLaws.{body-there}
 
 -- a datagram that reading refuses is not refused with 42

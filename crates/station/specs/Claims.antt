@@ -1,5 +1,5 @@
 -- What the station's theorems claim. Each is proved under its own name in small letters: OnlyByRules by only-by-rules, and so on.
-use Prim.Native.Nat.{ℕ, _+_, _-_, _<_, _≤_}
+use Prim.Native.Nat.{ℕ, _+_, _-_, _/_, _%_, _<_, _≤_}
 use mathlib.Core.Path.{_≡_}
 use mathlib.Core.Bool.{true}
 use mathlib.Core.List.{List, _∷_}
@@ -10,10 +10,11 @@ use Rattle.pdu.specs.Reading.{reading}
 use Rattle.pdu.specs.declared.Header.{Header}
 use Rattle.pdu.specs.declared.Transmitter.{Transmitter}
 use Rattle.pdu.specs.declared.Signal.{Signal}
+use Rattle.pdu.specs.declared.Word.the-variants.{Absent, Here}
 use Rattle.pdu.specs.declared.Reading.the-variants.{Refused, Transmitter as aTransmitter}
 use Rattle.station.specs.Units.{levelOf, netOf, idOf, stateOf, clockOf, keyOf, made, stateNumber, unitAt, unitsHeld, seenOf, placeAt}
 use Rattle.station.specs.Plain.{Sized, NoneBeyond, HeldAt, oneAt, Sender, Stranger, Clash}
-use Rattle.station.specs.Hearing.{answering, heard}
+use Rattle.station.specs.Hearing.{answering, firstWord, heard}
 use Rattle.station.specs.Runs.{Call, datagram, called, after}
 use Rattle.station.specs.Table.{IsSignal, Passed, SaysJ00, Table}
 use Rattle.station.specs.declared.State.the-variants.{Waiting, Coarse, Fine}
@@ -61,11 +62,19 @@ pub record SameKey (h h′ : Header) : Type 0 where
   pub entity : keyOf h ≡ keyOf h′ → h .entity ≡ h′ .entity
   pub radio : keyOf h ≡ keyOf h′ → h .radio ≡ h′ .radio
 
+-- ---- where a datagram holds what the station goes by
+
 -- The key of a PDU that was read is the number in bytes 12 to 19 of its datagram (01: site, application, entity and radio "together are the
 -- unit's key").
 pub record KeyInBytes (d : List ℕ) : Type 0 where
   pub of-transmitter : (t : Transmitter) → reading d ≡ aTransmitter t → keyOf (t .header) ≡ num 8 12 d
   pub of-signal : (g : Signal) → IsSignal d g → keyOf (g .header) ≡ num 8 12 d
+
+-- The first word of a Signal with a body of n bytes stands in bytes 58 to 67 of its datagram, behind 52 bytes and the body's 6 header bytes:
+-- bits 0 and 1 are its format, 2 to 6 its label, 7 to 9 its sublabel. There is none where the body has fewer than 16 bytes.
+pub record FirstWordInBytes (d : List ℕ) (n : ℕ) : Type 0 where
+  pub here : 16 ≤ n → firstWord d ≡ Here (num 10 58 d % 4) (num 10 58 d / 4 % 32) (num 10 58 d / 128 % 8)
+  pub absent : n < 16 → firstWord d ≡ Absent
 
 -- ---- what others see of a station
 
