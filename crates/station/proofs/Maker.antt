@@ -40,7 +40,7 @@ made-by-rules level net = go (ltb lastLevel level) (ltb lastNet net) refl refl
         → MakerTable level net (given (a || b) .answer) (given (a || b) .station)
     go true b x y = refused (inl (omega (arith, ltb-true lastLevel level x))) (is-fresh 0 0)
     go false true x y = refused (inr (omega (arith, ltb-true lastNet net y))) (is-fresh 0 0)
-    go false false x y = taken (omega (arith, ltb-false lastLevel level x)) (omega (arith, ltb-false lastNet net y)) (is-fresh level net)
+    go false false x y = taken (ltb-false _ _ x) (ltb-false _ _ y) (is-fresh level net)
 
 pub same-key : (h h′ : Header) → TwoBytes h → TwoBytes h′ → SameKey h h′
 same-key h h′ fits fits′ = record {

@@ -89,7 +89,7 @@ module _ (own sender : ℕ) where
           → eqb own sender ≡ a
           → eqb own anyId ≡ b
           → eqb sender anyId ≡ c
-          → (not (b || c) && not a) ≡ true
+          → cond (b || c) false (not a) ≡ true
           → Clash own sender
       go true true c x y z f = absurd (true≢false (sym f))
       go true false true x y z f = absurd (true≢false (sym f))
@@ -106,7 +106,7 @@ module _ (own sender : ℕ) where
           → eqb own sender ≡ a
           → eqb own anyId ≡ b
           → eqb sender anyId ≡ c
-          → (not (b || c) && not a) ≡ false
+          → cond (b || c) false (not a) ≡ false
           → Agree own sender
       go true b c x y z f = inl (eqb-true _ _ x)
       go false true c x y z f = inr (inl (eqb-true _ _ y))

@@ -76,9 +76,9 @@ hearTransmitter s t = cond (known s (keyOf (t .header))) (renew s (placeOf s (ke
 
 -- ---- Signal
 
--- 33: the IDs differ and neither is zero
+-- 33: the IDs differ, and neither is zero ("zero ID matches all")
 unfoldable pub otherId : ℕ → ℕ → Bool
-otherId own sender = not (eqb own anyId || eqb sender anyId) && not (eqb own sender)
+otherId own sender = cond (eqb own anyId || eqb sender anyId) false (not (eqb own sender))
 
 -- the sender's entry
 abbrev pub senderOf : Station → Signal → Unit
