@@ -1,7 +1,6 @@
 // What a call answered, as a line.
-use crate::show;
-use crate::text;
 use text::ROOM;
+use text::show;
 use trunk::Arrival;
 use trunk::Offer;
 use trunk::Reply;

@@ -1,10 +1,9 @@
 // The calls of a script, made and shown.
 use crate::answers;
 use crate::script;
-use crate::show;
-use crate::text;
 use script::Call;
 use text::ROOM;
+use text::show;
 use trunk::Far;
 use trunk::Near;
 use trunk::far_end;

@@ -2,12 +2,11 @@
 mod answers;
 mod calls;
 mod script;
-mod show;
-mod text;
 mod units;
 
 use calls::State;
 use libc::STDIN_FILENO;
+use text::show;
 
 // A line of this length or more cannot be read.
 const INPUT: usize = 65536;
@@ -133,7 +132,7 @@ fn feed(state: State, have: usize, input: &mut [u8; INPUT]) -> Held {
             go: true,
         };
     }
-    units::show_bad_line(after.lines);
+    show::bad_line(after.lines);
     stop(after)
 }
 

@@ -1,5 +1,4 @@
 // A line of a script, as the call that it asks for.
-use crate::text;
 use text::ROOM;
 
 // A call. Its bytes stand at the start of a buffer; here is how many.

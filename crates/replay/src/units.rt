@@ -1,11 +1,11 @@
 // How both ends stand, as the last lines say it.
 use crate::calls;
-use crate::show;
 use calls::State as Run;
 use station::Place;
 use station::State;
 use station::Station;
 use station::Unit;
+use text::show;
 use trunk::Far;
 use trunk::Near;
 use trunk::far_end;
@@ -74,13 +74,6 @@ fn show_places(s: Station) {
     }
 }
 
-// `bad line N`, where so many lines came before.
-pub fn show_bad_line(before: u64) {
-    if before < u64::MAX {
-        show::line(b"bad line", before + 1);
-    }
-}
-
 // The last lines, where any line was run.
 fn show_ends(near: Near, far: Far) {
     let station = far_end::station(far);
@@ -95,7 +88,7 @@ pub fn show_end(run: Run) {
     let near = side.near;
     let far = run.far;
     if !run.good {
-        return show_bad_line(run.lines);
+        return show::bad_line(run.lines);
     }
     if 0 < run.lines {
         show_ends(near, far);

@@ -1,10 +1,10 @@
--- `replay::text::first_mut` is safe. The part that it lends has `n` bytes, since the buffer has as many.
+-- `text::first_mut` is safe. The part that it lends has `n` bytes, since the buffer has as many.
 -- Assumes nothing.
 use lib.ListN.{length-take}
 use native.Mathlib.Omega.{arith}
 use borrow.Author.Needs.{needs}
-use Rattle.replay.proofs.text.first_mut.Statement.{statement}
-use Rattle.replay.proofs.text.first_mut.Tie as tie
+use Rattle.text.proofs.first_mut.Statement.{statement}
+use Rattle.text.proofs.first_mut.Tie as tie
 
 slice-aggregate-result : tie.Need-slice-aggregate-result
 slice-aggregate-result c = simp length-take (omega arith)

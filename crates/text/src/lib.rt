@@ -1,4 +1,7 @@
-// Words, numbers and hexadecimal bytes in a line of text.
+// Words, numbers and hexadecimal bytes in a line of text, and what the programs `replay` and `codec` print.
+pub mod lines;
+pub mod show;
+
 ghost use Prim.Native.Nat.{_≤_};
 
 // The longest lent buffer.

@@ -1,10 +1,10 @@
--- `replay::text::decimal` is safe and ends, and answers no number above `most`. That holds of 0, and of what each digit makes of the number.
+-- `text::decimal` is safe and ends, and answers no number above `most`. That holds of 0, and of what each digit makes of the number.
 -- Assumes nothing.
 use Prim.Native.Nat.{_-_, _≤_}
 use lib.ListN.{length}
 use borrow.Author.Needs.{needs}
-use Rattle.replay.proofs.text.decimal.Statement.{statement}
-use Rattle.replay.proofs.text.decimal.Tie as tie
+use Rattle.text.proofs.decimal.Statement.{statement}
+use Rattle.text.proofs.decimal.Tie as tie
 
 abbrev Inv-loop : tie.InvT-loop
 Inv-loop text most n₀ i₀ n i = n .value ≤ most

@@ -1,10 +1,10 @@
--- `replay::text::first` is safe. The part that it answers has `n` bytes, since the text has as many.
+-- `text::first` is safe. The part that it answers has `n` bytes, since the text has as many.
 -- Assumes nothing.
 use lib.ListN.{length-take}
 use native.Mathlib.Omega.{arith}
 use borrow.Author.Needs.{needs}
-use Rattle.replay.proofs.text.first.Statement.{statement}
-use Rattle.replay.proofs.text.first.Tie as tie
+use Rattle.text.proofs.first.Statement.{statement}
+use Rattle.text.proofs.first.Tie as tie
 
 slice-aggregate-result : tie.Need-slice-aggregate-result
 slice-aggregate-result c = simp length-take (omega arith)

@@ -1,7 +1,6 @@
-// What the program prints.
-use crate::text;
+// What the programs print.
+use crate::ROOM;
 use libc::STDOUT_FILENO;
-use text::ROOM;
 
 // Room for the digits of a lent buffer.
 const SPELLED: usize = 2 * ROOM;
@@ -41,6 +40,13 @@ pub fn refused(call: &[u8], n: u8) {
     line(b" refused", n as u64);
 }
 
+// `bad line N`, where so many lines came before.
+pub fn bad_line(before: u64) {
+    if before < u64::MAX {
+        line(b"bad line", before + 1);
+    }
+}
+
 // A hexadecimal digit's character.
 fn digit(n: u8) -> u8 {
     if n < 10 {
@@ -73,15 +79,23 @@ fn spell(bytes: &[u8], out: &mut [u8; SPELLED]) {
 fn digits(spelled: &[u8; SPELLED], n: usize) {
     text(b" ");
     if n <= ROOM {
-        text(text::first(spelled, 2 * n));
+        text(crate::first(spelled, 2 * n));
     }
 }
 
-// A space, and the first `n` bytes of a lent buffer in lower-case hexadecimal.
-pub fn bytes(buf: &[u8; ROOM], n: usize) {
+// A space, and at most so many bytes as a lent buffer has in lower-case hexadecimal; `-` is no bytes.
+pub fn hex(bytes: &[u8]) {
+    if bytes.len() == 0 {
+        return text(b" -");
+    }
     let mut spelled = [0u8; SPELLED];
-    spell(text::first(buf, n), &mut spelled);
-    digits(&spelled, n);
+    spell(bytes, &mut spelled);
+    digits(&spelled, bytes.len());
+}
+
+// A space, and the first `n` bytes of a lent buffer.
+pub fn bytes(buf: &[u8; ROOM], n: usize) {
+    hex(crate::first(buf, n));
 }
 
 // A key in sixteen hexadecimal digits.

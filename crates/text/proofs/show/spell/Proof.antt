@@ -1,10 +1,10 @@
--- `replay::show::spell` is safe and ends. It goes through the bytes once; what writes the digits tests its own places.
+-- `text::show::spell` is safe and ends. It goes through the bytes once; what writes the digits tests its own places.
 -- Assumes nothing.
 use Prim.Native.Nat.{_-_}
 use lib.ListN.{length}
 use borrow.Author.Needs.{needs}
-use Rattle.replay.proofs.show.spell.Statement.{statement}
-use Rattle.replay.proofs.show.spell.Tie as tie
+use Rattle.text.proofs.show.spell.Statement.{statement}
+use Rattle.text.proofs.show.spell.Tie as tie
 
 abbrev Inv-loop : tie.InvT-loop
 Inv-loop bytes out₀ i₀ out i = Unit {0}

@@ -1,10 +1,10 @@
--- `replay::text::find` is safe and ends, and answers no place before `at`. The place starts there and moves on by one.
+-- `text::find` is safe and ends, and answers no place before `at`. The place starts there and moves on by one.
 -- Assumes nothing.
 use Prim.Native.Nat.{_-_, _≤_}
 use lib.ListN.{length}
 use borrow.Author.Needs.{needs}
-use Rattle.replay.proofs.text.find.Statement.{statement}
-use Rattle.replay.proofs.text.find.Tie as tie
+use Rattle.text.proofs.find.Statement.{statement}
+use Rattle.text.proofs.find.Tie as tie
 
 abbrev Inv-loop : tie.InvT-loop
 Inv-loop text at byte i₀ i = at ≤ i

@@ -1,9 +1,9 @@
--- `replay::text::put_bytes` is safe and ends. The loop counts up to `n`; what puts a byte tests its own places.
+-- `text::put_bytes` is safe and ends. The loop counts up to `n`; what puts a byte tests its own places.
 -- Assumes nothing.
 use Prim.Native.Nat.{_-_}
 use borrow.Author.Needs.{needs}
-use Rattle.replay.proofs.text.put_bytes.Statement.{statement}
-use Rattle.replay.proofs.text.put_bytes.Tie as tie
+use Rattle.text.proofs.put_bytes.Statement.{statement}
+use Rattle.text.proofs.put_bytes.Tie as tie
 
 abbrev Inv-loop : tie.InvT-loop
 Inv-loop text n out₀ good₀ i₀ out good i = Unit {0}

@@ -1,0 +1,122 @@
+// What reading and writing answered, as a line.
+use pdu::Antenna;
+use pdu::Emission;
+use pdu::Entity;
+use pdu::Header;
+use pdu::Network;
+use pdu::Reading;
+use pdu::Signal;
+use pdu::Sync;
+use pdu::Transmitter;
+use pdu::Written;
+use text::ROOM;
+use text::show;
+
+fn show_header(h: Header) {
+    show::field(h.version as u64);
+    show::field(h.exercise as u64);
+    show::field(h.timestamp as u64);
+    show::field(h.site as u64);
+    show::field(h.application as u64);
+    show::field(h.entity as u64);
+    show::field(h.radio as u64);
+}
+
+fn show_entity(e: Entity) {
+    show::field(e.kind as u64);
+    show::field(e.domain as u64);
+    show::field(e.country as u64);
+    show::field(e.version as u64);
+    show::field(e.nomenclature as u64);
+    show::field(e.state as u64);
+}
+
+fn show_antenna(a: Antenna) {
+    show::field(a.x);
+    show::field(a.y);
+    show::field(a.z);
+    show::field(a.dx as u64);
+    show::field(a.dy as u64);
+    show::field(a.dz as u64);
+    show::field(a.pattern as u64);
+}
+
+fn show_emission(e: Emission) {
+    show::field(e.frequency);
+    show::field(e.bandwidth as u64);
+    show::field(e.power as u64);
+    show::field(e.spread as u64);
+    show::field(e.crypto as u64);
+    show::field(e.key as u64);
+}
+
+fn show_sync(s: Sync) {
+    show::field(s.level as u64);
+    show::field(s.primary as u64);
+    show::field(s.secondary as u64);
+    show::field(s.state as u64);
+    show::field(s.id as u64);
+}
+
+// The epoch stands before the slot, as in the bytes.
+fn show_network(n: Network) {
+    show::field(n.npg as u64);
+    show::field(n.net as u64);
+    show::field(n.tsec as u64);
+    show::field(n.msec as u64);
+    show::field(n.message_type as u64);
+    show::field(n.epoch as u64);
+    show::field(n.slot as u64);
+    show::field(n.time);
+}
+
+// `read transmitter FIELDS`
+fn show_transmitter(t: Transmitter) {
+    show::text(b"read transmitter");
+    show_header(t.header);
+    show_entity(t.entity);
+    show_antenna(t.antenna);
+    show_emission(t.emission);
+    show_sync(t.sync);
+    show::end_line();
+}
+
+// `read signal FIELDS BODYHEX`
+fn show_signal(s: Signal, body: &[u8]) {
+    show::text(b"read signal");
+    show_header(s.header);
+    show::field(s.encoding as u64);
+    show::field(s.rate as u64);
+    show::field(s.samples as u64);
+    show_network(s.network);
+    show::hex(body);
+    show::end_line();
+}
+
+// The body of a Signal, which is left in the datagram.
+fn body(datagram: &[u8], size: u16) -> &[u8] {
+    let end = pdu::BODY_START + size as usize;
+    text::part(datagram, pdu::BODY_START, end)
+}
+
+// `read refused N`, or what a datagram holds
+pub fn read(answer: Reading, datagram: &[u8]) {
+    match answer {
+        Reading::Refused(number) => show::refused(b"read", number),
+        Reading::Transmitter(transmitter) => show_transmitter(transmitter),
+        Reading::Signal(signal, size) => show_signal(signal, body(datagram, size)),
+    }
+}
+
+// `write refused N` or `write SIZE HEX`
+pub fn written(answer: Written, out: &[u8; ROOM]) {
+    match answer {
+        Written::Refused(number) => show::refused(b"write", number),
+        Written::Size(n) => {
+            show::text(b"write");
+            show::field(n as u64);
+            show::bytes(out, n);
+            show::end_line();
+        }
+    }
+}
