@@ -5,6 +5,7 @@
 ARCHIVE ?= target/staticlib/libhost.a
 LISTER ?= target/bin/lister
 REPLAY ?= target/bin/replay
+CODEC ?= target/bin/codec
 BENCH ?= target/bin/bench
 PLANNER ?= target/bin/planner
 PLANCHECK ?= target/bin/plancheck
@@ -14,6 +15,7 @@ PLANBENCH ?= target/bin/planbench
 PROGRAMS := \
     target/bin/lister \
     target/bin/replay \
+    target/bin/codec \
     target/bin/bench \
     target/bin/planner \
     target/bin/plancheck \
@@ -80,7 +82,7 @@ archive: $(ARCHIVE)
 
 .PHONY: programs
 ## make programs         the proved programs, in target/bin                                      5 minutes
-programs: $(LISTER) $(REPLAY) $(BENCH) $(PLANNER) $(PLANCHECK) $(PLANBENCH)
+programs: $(LISTER) $(REPLAY) $(CODEC) $(BENCH) $(PLANNER) $(PLANCHECK) $(PLANBENCH)
 
 .PHONY: runs
 ## make runs             the stored runs of the programs alone                                   5 minutes
@@ -111,6 +113,11 @@ compare-lister: rust-compiler $(SECOND) $(LISTER)
 ## make compare-replay   both ends and the second program on scripts of calls                    4 minutes
 compare-replay: rust-compiler $(SECOND) $(REPLAY)
 	@$(SECOND) compare-replay --replay $(REPLAY)
+
+.PHONY: compare-codec
+## make compare-codec    the codec and the second program on datagrams and records to be written  4 minutes
+compare-codec: rust-compiler $(SECOND) $(CODEC)
+	@$(SECOND) compare-codec --codec $(CODEC)
 
 .PHONY: compare-jobs
 ## make compare-jobs     the bench program and the second program on small jobs                  4 minutes

@@ -40,6 +40,7 @@ counted 'compare' make compare
 counted 'compare-records' make compare-records
 counted 'compare-lister' make compare-lister
 counted 'compare-replay' make compare-replay
+counted 'compare-codec' make compare-codec
 counted 'compare-jobs' make compare-jobs
 counted 'compare-plans' make compare-plans
 echo "$total passed, 0 failed"

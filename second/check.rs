@@ -22,47 +22,51 @@ impl Claim {
             self.failure = Some(describe());
         }
     }
+
+    /// Prints the claim, behind `mark` where it holds; whether it does.
+    fn print(&self, mark: &str) -> bool {
+        match &self.failure {
+            None => println!("{mark:<8}{}", self.what),
+            Some(failure) => println!("FAILED  {}: {failure}", self.what),
+        }
+        self.failure.is_none()
+    }
 }
 
-/// How many checks passed, and how many failed.
+/// How many checks of the proved code passed, and how many failed; and how many checks of the
+/// second program on itself hold, which are not counted among those.
 #[derive(Default)]
 pub struct Report {
     passed: u32,
     failed: u32,
+    own_held: u32,
+    own_failed: u32,
 }
 
 impl Report {
-    /// Counts a check, and prints it.
+    /// Counts a check of the proved code, and prints it.
     pub fn count(&mut self, claim: &Claim) {
-        match &claim.failure {
-            None => {
-                self.passed += 1;
-                println!("ok      {}", claim.what);
-            }
-            Some(failure) => {
-                self.failed += 1;
-                println!("FAILED  {}: {failure}", claim.what);
-            }
-        }
+        let holds = claim.print("ok");
+        self.passed += u32::from(holds);
+        self.failed += u32::from(!holds);
     }
 
-    /// Prints the counts as the last line, and before it those of the second program's checks on
-    /// itself, which are no part of them; the status to exit with.
-    pub fn finish_beside(&self, own: &Report) -> ExitCode {
-        println!(
-            "the second program on itself: {} held, {} failed, not counted",
-            own.passed, own.failed
-        );
-        let status = self.finish();
-        if own.failed > 0 {
-            return ExitCode::FAILURE;
-        }
-        status
+    /// Counts a check of the second program on itself, and prints it.
+    pub fn count_own(&mut self, claim: &Claim) {
+        let holds = claim.print("self");
+        self.own_held += u32::from(holds);
+        self.own_failed += u32::from(!holds);
     }
 
-    /// Prints the counts as the last line; the status to exit with.
+    /// Prints the counts, those of the proved code as the last line; the status to exit with.
     pub fn finish(&self) -> ExitCode {
-        println!("{} passed, {} failed", self.passed, self.failed);
-        ExitCode::from(u8::from(self.failed > 0))
+        match (self.own_held, self.own_failed) {
+            (0, 0) => {}
+            (held, 0) => println!("self-checks: {held}, all hold"),
+            (held, failed) => println!("self-checks: {held} hold, {failed} failed"),
+        }
+        let failed = self.failed + self.own_failed;
+        println!("{} passed, {failed} failed", self.passed);
+        ExitCode::from(u8::from(failed > 0))
     }
 }

@@ -1,12 +1,15 @@
 //! Bytes as lower-case hex; `-` stands for no bytes, so that they make a word of a command.
 
 const NO_BYTES: &str = "-";
+const DIGITS: &[u8; 16] = b"0123456789abcdef";
 
 pub fn encode(bytes: &[u8]) -> String {
     if bytes.is_empty() {
         return NO_BYTES.to_string();
     }
-    bytes.iter().map(|byte| format!("{byte:02x}")).collect()
+    let digit = |value: u8| char::from(DIGITS[usize::from(value)]);
+    let pairs = bytes.iter().map(|byte| [byte >> 4, byte & 15]);
+    pairs.flatten().map(digit).collect()
 }
 
 /// Nothing where the text is not lower-case hex with two digits for each byte.

@@ -5,6 +5,7 @@ mod archive;
 mod bench;
 mod bytes;
 mod check;
+mod codec;
 mod compare;
 mod generate;
 mod hex;
@@ -30,16 +31,19 @@ const USAGE: &str = "usage:
   second compare-records [--seed S] [--count N]   the archive's answers to N trunk records
   second compare-lister --lister PROGRAM [--seed S] [--count N]   a lister on N streams
   second compare-replay --replay PROGRAM [--seed S] [--count N]   a replay on N calls
+  second compare-codec --codec PROGRAM [--seed S] [--count N]     a codec on N lines
   second compare-jobs --bench PROGRAM             a bench program on a few small jobs
   second compare-plans --planner PROGRAM --plancheck PROGRAM [--seed S] [--count N]
                                                   a planner and a check of plans on N lists of rates
   second compare-lister --lister PROGRAM --input FILE   a lister on one stream
   second compare-replay --replay PROGRAM --input FILE   a replay on one script
+  second compare-codec --codec PROGRAM --input FILE     a codec on these lines
   second compare-jobs --bench PROGRAM --input FILE      a bench program on these jobs
   second one HEX      both answers to one datagram; - is an empty one
   second record HEX   both answers to one record; - is an empty one
   second list         list the trunk records on standard input, as the lister does
   second replay       make the calls on standard input, as replay does
+  second codec        read and write the lines on standard input, as codec does
   second jobs         run the jobs on standard input, as the bench program does
   second exercise     print a sample exercise, a script for replay
   second tell         tell what the output of replay on standard input says
@@ -74,6 +78,7 @@ fn run(words: &[&str]) -> Result<ExitCode, String> {
         }
         ["compare-lister", "--lister", program, rest @ ..] => compare_lister(program, rest),
         ["compare-replay", "--replay", program, rest @ ..] => compare_replay(program, rest),
+        ["compare-codec", "--codec", program, rest @ ..] => compare_codec(program, rest),
         ["compare-jobs", "--bench", program, rest @ ..] => compare_jobs(program, rest),
         ["compare-plans", "--planner", planner, "--plancheck", plancheck, rest @ ..] => {
             let (seed, count) = settings(rest, compare::plans::DEFAULT_COUNT)?;
@@ -83,6 +88,7 @@ fn run(words: &[&str]) -> Result<ExitCode, String> {
         ["record", text] => Ok(compare::compare_one(&RECORDS, &bytes(text)?)),
         ["list"] => print(trunk::lister::list(&input()?)),
         ["replay"] => print(trunk::replay::run(&input()?)),
+        ["codec"] => print(codec::run(&input()?)),
         ["jobs"] => print(jobs::run(&input()?)),
         ["exercise"] => print(sample::exercise::script()),
         ["tell"] => print(sample::tell::tell(&String::from_utf8_lossy(&input()?))?),
@@ -112,6 +118,15 @@ fn compare_replay(program: &str, rest: &[&str]) -> Result<ExitCode, String> {
     }
     let (seed, count) = settings(rest, compare::replay::DEFAULT_COUNT)?;
     compare::replay::run(program, seed, count)
+}
+
+fn compare_codec(program: &str, rest: &[&str]) -> Result<ExitCode, String> {
+    let program = Path::new(program);
+    if let ["--input", file] = rest {
+        return compare::codec::compare_input(program, file);
+    }
+    let (seed, count) = settings(rest, compare::codec::DEFAULT_COUNT)?;
+    compare::codec::run(program, seed, count)
 }
 
 fn compare_jobs(program: &str, rest: &[&str]) -> Result<ExitCode, String> {

@@ -89,19 +89,19 @@ const OTHER_LINES: [(usize, &str, &str); 5] = [
 /// Counts the checks of the judge.
 pub fn run(report: &mut Report) {
     let script = script();
-    report.count(&leaves_alone(&script));
+    report.count_own(&leaves_alone(&script));
     let mut claim = Claim::new("the judge of demand 3 hands over record 1 and its reply");
     let judged = demand3::judge(&script, &replay::run(&script));
     let Some(calls) = judged.as_ref().ok().and_then(History::handover) else {
         claim.sample(false, || format!("{judged:?}"));
-        return report.count(&claim);
+        return report.count_own(&claim);
     };
     let longer = going_on(&script, &calls);
     let printed = replay::run(&longer);
     let judged = demand3::judge(&longer, &printed);
     claim.sample(judged.is_ok(), || format!("{judged:?}"));
-    report.count(&claim);
-    report.count(&finds_slips(&longer, &printed));
+    report.count_own(&claim);
+    report.count_own(&finds_slips(&longer, &printed));
 }
 
 fn finds_slips(script: &[u8], printed: &str) -> Claim {

@@ -42,7 +42,7 @@ pub fn run(report: &mut Report) {
     for (what, case) in cases {
         let mut trial = Trial::new(what);
         case(&mut trial);
-        report.count(&trial.claim);
+        report.count_own(&trial.claim);
     }
 }
 

@@ -48,7 +48,7 @@ pub fn run(program: &Path, seed: u64, count: u64) -> Result<ExitCode, String> {
     println!("seed {seed}, {count} streams");
     let mut generator = StreamGenerator::new(seed);
     let mut comparison = Comparison::new(&LISTER, program);
-    let (mut report, mut own) = (Report::default(), Report::default());
+    let mut report = Report::default();
     let (mut long, mut empty) = (0, 0);
     comparison.compare(&KNOWN_STREAM)?;
     for _ in 0..count {
@@ -62,10 +62,10 @@ pub fn run(program: &Path, seed: u64, count: u64) -> Result<ExitCode, String> {
     for (what, occurred) in [("long streams", long), ("empty streams", empty)] {
         let mut claim = Claim::new(what);
         claim.sample(occurred >= least, || format!("{occurred} occurred"));
-        own.count(&claim);
+        report.count_own(&claim);
     }
-    own.count(&known());
-    Ok(report.finish_beside(&own))
+    report.count_own(&known());
+    Ok(report.finish())
 }
 
 /// The lister's case in document 01, "Sizes and edges".

@@ -2,6 +2,7 @@
 //! on itself.
 
 mod answers;
+pub mod codec;
 pub mod datagrams;
 mod demand3;
 pub mod jobs;

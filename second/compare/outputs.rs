@@ -89,7 +89,7 @@ impl Outputs {
 }
 
 /// A long line without its end.
-fn cut(line: &str) -> String {
+pub fn cut(line: &str) -> String {
     match line.char_indices().nth(SHOWN_MAX) {
         Some((end, _)) => format!("{}..", &line[..end]),
         None => line.to_string(),

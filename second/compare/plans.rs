@@ -48,12 +48,12 @@ pub fn run(planner: &Path, plancheck: &Path, seed: u64, count: u64) -> Result<Ex
         comparison.compare(&mut random, &rates)?;
     }
     comparison.tally.print();
-    let (mut report, mut own) = (Report::default(), Report::default());
+    let mut report = Report::default();
     comparison
         .tally
         .report(OFTEN.in_a_run_of(count), &mut report);
-    own.count(&known());
-    Ok(report.finish_beside(&own))
+    report.count_own(&known());
+    Ok(report.finish())
 }
 
 impl Comparison<'_> {

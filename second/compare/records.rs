@@ -65,8 +65,8 @@ pub fn run(seed: u64, count: u64) -> ExitCode {
         |bytes| check_written_again(bytes, &mut written_again),
     );
     comparison.report(&mut report);
-    report.count(&written_again);
-    report.count(&sizes());
+    report.count_own(&written_again);
+    report.count_own(&sizes());
     report.finish()
 }
 

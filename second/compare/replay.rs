@@ -209,13 +209,13 @@ impl Extents {
             fair.scripts, all.scripts, fair.calls, all.calls
         ));
         claim.sample(fair.is_half_of(all), || "fewer".to_string());
-        report.count(&claim);
+        report.count_own(&claim);
         let mut claim = Claim::new(format!(
             "{} of {} fair scripts leave a record to hand over, half or more",
             handed_over.scripts, fair.scripts
         ));
         claim.sample(handed_over.is_half_of(fair), || "fewer".to_string());
-        report.count(&claim);
+        report.count_own(&claim);
     }
 }
 
@@ -237,10 +237,10 @@ pub fn run(program: &Path, seed: u64, count: u64) -> Result<ExitCode, String> {
             eprintln!("compared {scripts} scripts, {calls} calls");
         }
     }
-    let (mut report, mut own) = (Report::default(), Report::default());
+    let mut report = Report::default();
     comparison.report(OFTEN.in_a_run_of(count), &mut report);
-    extents.report(&mut own);
-    known_cases::run(&mut own);
-    judge_check::run(&mut own);
-    Ok(report.finish_beside(&own))
+    extents.report(&mut report);
+    known_cases::run(&mut report);
+    judge_check::run(&mut report);
+    Ok(report.finish())
 }

@@ -59,11 +59,11 @@ impl SelfChecks {
 
     /// Counts these claims and those that need no datagram.
     pub fn finish(self, generator: &mut Generator, report: &mut Report) {
-        report.count(&self.written);
-        report.count(&self.same_record);
-        report.count(&self.own_form);
-        report.count(&self.only_named);
-        report.count(&self.short_output);
+        report.count_own(&self.written);
+        report.count_own(&self.same_record);
+        report.count_own(&self.own_form);
+        report.count_own(&self.only_named);
+        report.count_own(&self.short_output);
         let (datagram, transmitter) = known_transmitter();
         check_known(
             "a known Transmitter",
@@ -95,7 +95,7 @@ fn check_known(what: &str, datagram: &[u8], pdu: &Pdu, report: &mut Report) {
     claim.sample(output == layout::written_form(datagram), || {
         hex::encode(&output)
     });
-    report.count(&claim);
+    report.count_own(&claim);
 }
 
 /// Each byte is its own number, but for the fields named. So a record shows where the reader

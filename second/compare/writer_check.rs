@@ -120,7 +120,7 @@ fn check<R: Record>(kind: &str, drafts: &[Draft<R>], breakers: &[Breaker<R>], re
         for at in (0..breakers.len()).filter(|&at| breakers[at].0 == number) {
             try_breakers(drafts, &breakers[at..], &mut claim);
         }
-        report.count(&claim);
+        report.count_own(&claim);
     }
 }
 

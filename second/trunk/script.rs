@@ -112,11 +112,11 @@ pub fn number<T: std::str::FromStr>(text: &str) -> Option<T> {
     text.parse().ok().filter(|_| is_decimal)
 }
 
-fn size(text: &str) -> Option<usize> {
+pub fn size(text: &str) -> Option<usize> {
     number(text).filter(|&size| size <= BYTES_MAX)
 }
 
-fn bytes(text: &str) -> Option<Vec<u8>> {
+pub fn bytes(text: &str) -> Option<Vec<u8>> {
     hex::decode(text).filter(|bytes| bytes.len() <= BYTES_MAX)
 }
 

@@ -1,0 +1,182 @@
+//! Lines for the codec program: datagrams to read, records to write with good and bad fields, and
+//! what was written to read back.
+
+use super::datagrams::Generator;
+use crate::codec::fields::{Fields, Visit, Visitor};
+use crate::codec::Line;
+use crate::pdu::read::read;
+use crate::pdu::write::write;
+use crate::pdu::*;
+use crate::random::Random;
+use crate::trunk::script::BYTES_MAX;
+
+pub struct CodecLines {
+    random: Random,
+    datagrams: Generator,
+}
+
+impl CodecLines {
+    pub fn new(seed: u64) -> Self {
+        let mut random = Random::new(seed);
+        CodecLines {
+            datagrams: Generator::new(random.next()),
+            random,
+        }
+    }
+
+    /// A few lines: one of any sort, and those that follow from it.
+    pub fn next(&mut self) -> Vec<Line> {
+        match self.random.below(8) {
+            0..=3 => self.read_and_write(),
+            4 | 5 => self.write_transmitter(),
+            _ => self.write_signal(),
+        }
+    }
+
+    /// A datagram of any sort; one that is taken is written from what was read.
+    fn read_and_write(&mut self) -> Vec<Line> {
+        let mut datagram = self.datagrams.datagram();
+        datagram.truncate(BYTES_MAX);
+        let written = match read(&datagram) {
+            Ok(Pdu::Transmitter(record)) => {
+                let room = self.room(TRANSMITTER_SIZE);
+                Some(Line::WriteTransmitter(record, room))
+            }
+            Ok(Pdu::Signal(record, body)) => {
+                let room = self.room(datagram.len());
+                Some(Line::WriteSignal(record, body.to_vec(), room))
+            }
+            Err(_) => None,
+        };
+        [Some(Line::Read(datagram)), written]
+            .into_iter()
+            .flatten()
+            .collect()
+    }
+
+    fn write_transmitter(&mut self) -> Vec<Line> {
+        let datagram = self.datagrams.transmitter();
+        let Ok(Pdu::Transmitter(drawn)) = read(&datagram) else {
+            return Vec::new();
+        };
+        let mut record = drawn;
+        record.visit(&mut Visit(&mut Extremes(&mut self.random)));
+        record.header.version = drawn.header.version;
+        record.modulation = drawn.modulation;
+        self.damage(&mut record);
+        let room = self.room(TRANSMITTER_SIZE);
+        let line = Line::WriteTransmitter(record, room);
+        with_read_back(line, &Pdu::Transmitter(record), room)
+    }
+
+    fn write_signal(&mut self) -> Vec<Line> {
+        let datagram = self.datagrams.signal();
+        let Ok(Pdu::Signal(drawn, body)) = read(&datagram) else {
+            return Vec::new();
+        };
+        let mut record = drawn;
+        record.visit(&mut Visit(&mut Extremes(&mut self.random)));
+        record.header.version = drawn.header.version;
+        record.encoding = drawn.encoding;
+        record.network = NetworkHeader {
+            transmit_time: record.network.transmit_time,
+            ..drawn.network
+        };
+        self.damage(&mut record);
+        let body = self.body(body);
+        let pdu = Pdu::Signal(record, &body);
+        let room = self.room(pdu.size().min(BYTES_MAX));
+        let line = Line::WriteSignal(record, body.clone(), room);
+        with_read_back(line, &pdu, room)
+    }
+
+    /// In half of the records one field takes another value.
+    fn damage(&mut self, record: &mut impl Fields) {
+        if self.random.one_in(2) {
+            let mut count = Count(0);
+            record.visit(&mut Visit(&mut count));
+            let field = self.random.below(count.0);
+            let random = &mut self.random;
+            record.visit(&mut Visit(&mut Damage { random, field }));
+        }
+    }
+
+    /// This body, or one of a size at or beside a limit, or of any size.
+    fn body(&mut self, body: &[u8]) -> Vec<u8> {
+        let words = self.random.below(WORDS_MAX as u64 + 3) as usize;
+        let near = self.random.below(3) as usize;
+        let size = match self.random.below(12) {
+            0 => words_size(words) + near - 1,
+            1 => words_size(WORDS_MAX + 1),
+            2 => BODY_MAX + near - 1,
+            3 => self.random.below(BYTES_MAX as u64 + 1) as usize,
+            _ => return body.to_vec(),
+        };
+        self.random.bytes(size)
+    }
+
+    /// Most often just enough; sometimes too little, sometimes more.
+    fn room(&mut self, enough: usize) -> usize {
+        match self.random.below(12) {
+            0 => enough - 1,
+            1 => self.random.below(enough as u64) as usize,
+            2 | 3 => self.random.within(enough as u64, BYTES_MAX as u64) as usize,
+            _ => enough,
+        }
+    }
+}
+
+/// The line; and what it writes, to be read back.
+fn with_read_back(line: Line, pdu: &Pdu, room: usize) -> Vec<Line> {
+    let mut output = vec![0; room];
+    let written = write(pdu, &mut output).ok();
+    let read_back = written.map(|size| Line::Read(output[..size].to_vec()));
+    [Some(line), read_back].into_iter().flatten().collect()
+}
+
+/// Gives some fields the value 0, and some the largest of their type.
+struct Extremes<'a>(&'a mut Random);
+
+impl Visitor for Extremes<'_> {
+    fn visit(&mut self, value: u64, most: u64) -> u64 {
+        match self.0.below(8) {
+            0 => 0,
+            1 => most,
+            _ => value,
+        }
+    }
+}
+
+/// Gives one field, counted from 0, another value.
+struct Damage<'a> {
+    random: &'a mut Random,
+    field: u64,
+}
+
+impl Visitor for Damage<'_> {
+    fn visit(&mut self, value: u64, most: u64) -> u64 {
+        let is_field = self.field == 0;
+        self.field = self.field.wrapping_sub(1);
+        if !is_field {
+            return value;
+        }
+        match self.random.below(8) {
+            0 => 0,
+            1 => most,
+            2 => 1,
+            3 | 4 => value.wrapping_add(1) & most,
+            5 => value.wrapping_sub(1) & most,
+            6 => (value ^ 1 << self.random.below(64)) & most,
+            _ => self.random.next() & most,
+        }
+    }
+}
+
+struct Count(u64);
+
+impl Visitor for Count {
+    fn visit(&mut self, value: u64, _: u64) -> u64 {
+        self.0 += 1;
+        value
+    }
+}
