@@ -1,11 +1,9 @@
 // Reads datagrams and writes PDUs, one a line from standard input, and prints what each call answered.
-mod answers;
+mod calls;
 mod fields;
 mod script;
 mod words;
 
-use pdu::Signal;
-use pdu::Transmitter;
 use script::Call;
 use text::ROOM;
 use text::lines;
@@ -14,30 +12,13 @@ use text::lines::INPUT;
 use text::lines::Next;
 use text::show;
 
-fn read(datagram: &[u8]) {
-    let answer = reader::read(datagram);
-    answers::read(answer, datagram);
-}
-
-fn write_transmitter(transmitter: Transmitter, room: usize) {
-    let mut out = [0u8; ROOM];
-    let answer = writer::write_transmitter(transmitter, text::first_mut(&mut out, room));
-    answers::written(answer, &out);
-}
-
-fn write_signal(signal: Signal, body: &[u8], room: usize) {
-    let mut out = [0u8; ROOM];
-    let answer = writer::write_signal(signal, body, text::first_mut(&mut out, room));
-    answers::written(answer, &out);
-}
-
 // Makes a call, and answers whether the line could be read.
 fn run(call: Call, given: &[u8; ROOM]) -> bool {
     match call {
-        Call::Read(n) => read(text::first(given, n)),
-        Call::WriteTransmitter { transmitter, room } => write_transmitter(transmitter, room),
+        Call::Read(n) => calls::read(text::first(given, n)),
+        Call::WriteTransmitter { transmitter, room } => calls::write_transmitter(transmitter, room),
         Call::WriteSignal { signal, size, room } => {
-            write_signal(signal, text::first(given, size), room)
+            calls::write_signal(signal, text::first(given, size), room)
         }
         Call::Bad => return false,
     }
@@ -50,40 +31,25 @@ fn run_line(line: &[u8]) -> bool {
     run(call, &given)
 }
 
-// Where a line leaves the run: the bytes held, and whether to go on.
-struct After {
-    held: Held,
-    go: bool,
+// Where a line leaves the run: with these bytes held, or at its end.
+enum After {
+    Held(Held),
+    End,
 }
 
-fn stop() -> After {
-    After {
-        held: lines::none(),
-        go: false,
-    }
-}
-
-// A line that cannot be read ends the run.
-fn bad_line(before: u64) -> After {
-    show::bad_line(before);
-    stop()
-}
-
-// Runs the next line, which so many came before.
+// Runs the next line, which so many came before. One that cannot be read ends the run.
 fn run_next(input: &mut [u8; INPUT], held: Held, before: u64) -> After {
     match lines::next_line(input, held) {
         Next::Line { start, end, rest } => {
             if run_line(text::part(input, start, end)) {
-                return After {
-                    held: rest,
-                    go: true,
-                };
+                return After::Held(rest);
             }
-            bad_line(before)
+            show::bad_line(before);
         }
-        Next::TooLong => bad_line(before),
-        Next::Nothing => stop(),
+        Next::TooLong => show::bad_line(before),
+        Next::Nothing => {}
     }
+    After::End
 }
 
 // Runs every line. A proved loop has to end: it counts the lines, up to more than any input has.
@@ -91,11 +57,10 @@ fn run_all(input: &mut [u8; INPUT]) {
     let mut held = lines::none();
     let mut before: u64 = 0;
     while before < u64::MAX {
-        let next = run_next(input, held, before);
-        if !next.go {
-            return;
+        match run_next(input, held, before) {
+            After::Held(rest) => held = rest,
+            After::End => return,
         }
-        held = next.held;
         before += 1;
     }
 }

@@ -25,8 +25,8 @@ pub enum Call {
 }
 
 fn read_datagram(line: &[u8], given: &mut [u8; ROOM]) -> Call {
-    let n = words::bytes(line, words::start(), given);
-    if words::ends(line, n.rest) {
+    let n = text::bytes(line, given);
+    if n.good {
         Call::Read(n.value as usize)
     } else {
         Call::Bad

@@ -20,6 +20,12 @@ loop-holds c = tt
 run-next-requires : tie.Need-run-next-requires Inv-loop μ-loop
 run-next-requires c κs = search needs
 
+enum-known-rest : tie.Need-enum-known-rest Inv-loop μ-loop
+enum-known-rest c = search needs
+
+enum-told : tie.Need-enum-told Inv-loop μ-loop
+enum-told c = search needs
+
 returns : tie.Need-returns Inv-loop μ-loop
 returns c = search needs
 
@@ -44,6 +50,8 @@ run-all-spec =
     none-requires
     loop-holds
     run-next-requires
+    enum-known-rest
+    enum-told
     returns
     add-before
     loop-less

@@ -1,4 +1,4 @@
-// What reading and writing answered, as a line.
+// The calls, and what they answered as a line.
 use pdu::Antenna;
 use pdu::Emission;
 use pdu::Entity;
@@ -99,9 +99,9 @@ fn body(datagram: &[u8], size: u16) -> &[u8] {
     text::part(datagram, pdu::BODY_START, end)
 }
 
-// `read refused N`, or what a datagram holds
-pub fn read(answer: Reading, datagram: &[u8]) {
-    match answer {
+// Reads a datagram: `read refused N`, or what it holds.
+pub fn read(datagram: &[u8]) {
+    match reader::read(datagram) {
         Reading::Refused(number) => show::refused(b"read", number),
         Reading::Transmitter(transmitter) => show_transmitter(transmitter),
         Reading::Signal(signal, size) => show_signal(signal, body(datagram, size)),
@@ -109,7 +109,7 @@ pub fn read(answer: Reading, datagram: &[u8]) {
 }
 
 // `write refused N` or `write SIZE HEX`
-pub fn written(answer: Written, out: &[u8; ROOM]) {
+fn show_written(answer: Written, out: &[u8; ROOM]) {
     match answer {
         Written::Refused(number) => show::refused(b"write", number),
         Written::Size(n) => {
@@ -119,4 +119,18 @@ pub fn written(answer: Written, out: &[u8; ROOM]) {
             show::end_line();
         }
     }
+}
+
+// Writes a Transmitter into so many zeros.
+pub fn write_transmitter(transmitter: Transmitter, room: usize) {
+    let mut out = [0u8; ROOM];
+    let answer = writer::write_transmitter(transmitter, text::first_mut(&mut out, room));
+    show_written(answer, &out);
+}
+
+// The same of a Signal.
+pub fn write_signal(signal: Signal, body: &[u8], room: usize) {
+    let mut out = [0u8; ROOM];
+    let answer = writer::write_signal(signal, body, text::first_mut(&mut out, room));
+    show_written(answer, &out);
 }
