@@ -47,7 +47,8 @@ fn run_next(input: &mut [u8; INPUT], held: Held, before: u64) -> After {
             show::bad_line(before);
         }
         Next::TooLong => show::bad_line(before),
-        Next::Nothing => {}
+        Next::End => {}
+        Next::Failed => {}
     }
     After::End
 }

@@ -10,8 +10,8 @@ pub struct Held {
     pub end: usize,
 }
 
-// What comes next: a line without its end, from `start` up to `end`, and what is held behind it; or a line that is too long; or nothing, at the
-// input's end or after a read that failed.
+// What comes next: a line without its end, from `start` up to `end`, and what is held behind it; or a line that is too long; or the input's end;
+// or a read that failed.
 pub enum Next {
     Line {
         start: usize,
@@ -19,7 +19,8 @@ pub enum Next {
         rest: Held,
     },
     TooLong,
-    Nothing,
+    End,
+    Failed,
 }
 
 // What one read brought: so many bytes, none at the input's end, or a failure.
@@ -92,7 +93,7 @@ fn grown(have: usize, came: usize) -> usize {
 // The last line, which lacks its end, if there is one.
 fn last(have: usize) -> Next {
     if have == 0 {
-        return Next::Nothing;
+        return Next::End;
     }
     Next::Line {
         start: 0,
@@ -115,7 +116,7 @@ fn read_more(input: &mut [u8; INPUT], held: Held) -> Turn {
     }
     let came = read_behind(input, have);
     if came.failed {
-        return Turn::Done(Next::Nothing);
+        return Turn::Done(Next::Failed);
     }
     if came.bytes == 0 {
         return Turn::Done(last(have));
