@@ -82,14 +82,11 @@ fn show_ends(near: Near, far: Far) {
     show_places(station);
 }
 
-// How the run ended: the last lines, or the line that could not be read.
+// How the run ended.
 pub fn show_end(run: Run) {
     let side = run.side;
     let near = side.near;
     let far = run.far;
-    if !run.good {
-        return show::bad_line(run.lines);
-    }
     if 0 < run.lines {
         show_ends(near, far);
     }

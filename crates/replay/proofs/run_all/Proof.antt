@@ -5,13 +5,16 @@ use Rattle.replay.proofs.run_all.Statement.{statement}
 use Rattle.replay.proofs.run_all.Tie as tie
 
 abbrev Inv-loop : tie.InvT-loop
-Inv-loop input₀ held₀ turns₀ input held turns = Unit {0}
+Inv-loop input₀ now₀ turns₀ input now turns = Unit {0}
 
 abbrev μ-loop : tie.MeasureT-loop
-μ-loop input₀ held₀ turns₀ input held turns = turns
+μ-loop input₀ now₀ turns₀ input now turns = turns
 
 start-requires : tie.Need-start-requires Inv-loop μ-loop
 start-requires c κs = search needs
+
+none-requires : tie.Need-none-requires Inv-loop μ-loop
+none-requires c κs = search needs
 
 loop-holds : tie.Need-loop-holds Inv-loop μ-loop
 loop-holds c = tt
@@ -19,8 +22,8 @@ loop-holds c = tt
 sub-turns : tie.Need-sub-turns Inv-loop μ-loop
 sub-turns c = search needs
 
-turn-requires : tie.Need-turn-requires Inv-loop μ-loop
-turn-requires c κs = search needs
+run-next-requires : tie.Need-run-next-requires Inv-loop μ-loop
+run-next-requires c κs = search needs
 
 returns : tie.Need-returns Inv-loop μ-loop
 returns c = search needs
@@ -41,9 +44,10 @@ run-all-spec =
     Inv-loop
     μ-loop
     start-requires
+    none-requires
     loop-holds
     sub-turns
-    turn-requires
+    run-next-requires
     returns
     loop-less
     loop-again
