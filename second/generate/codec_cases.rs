@@ -22,7 +22,14 @@ pub fn inputs() -> Vec<String> {
         Line::WriteSignal(Signal::default(), vec![0; 6], 0),
     ]
     .map(|line| line.to_string());
-    let mut bad = vec![String::new(), " ".to_string(), too_long(LINE_MAX + 1)];
+    let too_many = vec![0; BYTES_MAX + 1];
+    let mut bad = vec![
+        String::new(),
+        " ".to_string(),
+        of_length(LINE_MAX + 1),
+        Line::Read(too_many.clone()).to_string(),
+        Line::WriteSignal(Signal::default(), too_many, 0).to_string(),
+    ];
     for line in &lines {
         bad.extend(mutilated(line));
     }
@@ -89,13 +96,13 @@ fn at_limits() -> String {
         "{}\n",
         transmitter.replace(" 255", " 00000000000000000000000255")
     );
-    text += &format!("{}\n", too_long(LINE_MAX));
+    text += &format!("{}\n", of_length(LINE_MAX));
     // The last line lacks its end.
-    text + &too_long(LINE_MAX)
+    text + &of_length(LINE_MAX)
 }
 
-/// A line of so many bytes that has nothing wrong but, maybe, its length.
-fn too_long(bytes: usize) -> String {
+/// A line of so many bytes that can be read, unless it is too long.
+fn of_length(bytes: usize) -> String {
     let line = Line::WriteTransmitter(Transmitter::default(), 0).to_string();
     line.clone() + &"0".repeat(bytes - line.len())
 }

@@ -54,6 +54,8 @@ impl CodecLines {
             .collect()
     }
 
+    /// A Transmitter whose fields without a rule are often 0 or the largest of their type, in half
+    /// of the lines with one field damaged; what is written is read back.
     fn write_transmitter(&mut self) -> Vec<Line> {
         let datagram = self.datagrams.transmitter();
         let Ok(Pdu::Transmitter(drawn)) = read(&datagram) else {
@@ -62,13 +64,18 @@ impl CodecLines {
         let mut record = drawn;
         record.visit(&mut Visit(&mut Extremes(&mut self.random)));
         record.header.version = drawn.header.version;
+        let sync_id = record.modulation.sync_id;
         record.modulation = drawn.modulation;
+        if drawn.modulation.tsa_level > LAST_LEVEL_WITHOUT_ID {
+            record.modulation.sync_id = sync_id;
+        }
         self.damage(&mut record);
         let room = self.room(TRANSMITTER_SIZE);
         let line = Line::WriteTransmitter(record, room);
         with_read_back(line, &Pdu::Transmitter(record), room)
     }
 
+    /// The same of a Signal, with its own body or another one.
     fn write_signal(&mut self) -> Vec<Line> {
         let datagram = self.datagrams.signal();
         let Ok(Pdu::Signal(drawn, body)) = read(&datagram) else {
@@ -161,10 +168,9 @@ impl Visitor for Damage<'_> {
             return value;
         }
         match self.random.below(8) {
-            0 => 0,
-            1 => most,
-            2 => 1,
-            3 | 4 => value.wrapping_add(1) & most,
+            0 | 1 => 0,
+            2 | 3 => most,
+            4 => value.wrapping_add(1) & most,
             5 => value.wrapping_sub(1) & most,
             6 => (value ^ 1 << self.random.below(64)) & most,
             _ => self.random.next() & most,
