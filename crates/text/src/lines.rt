@@ -145,10 +145,13 @@ fn look(input: &mut [u8; INPUT], held: Held) -> Turn {
     })
 }
 
-// The next line. A proved loop has to end: each turn but the last brings a byte, so there are no more turns than bytes.
+// The most turns that a line takes: each but the last brings a byte.
+const TURNS: usize = INPUT + 1;
+
+// The next line. A proved loop has to end: it counts its turns down.
 pub fn next_line(input: &mut [u8; INPUT], held: Held) -> Next {
     let mut now = held;
-    let mut turns = INPUT;
+    let mut turns = TURNS;
     while turns > 0 {
         turns -= 1;
         match look(input, now) {
