@@ -1,4 +1,4 @@
--- The word of places once more in literal numbers: the plain twin of Places.
+-- The word of places once more in literal numbers: the plain twin of Places. Proved by word-of-places and built-word (proofs/PlainLaws).
 use Prim.Native.Nat.{ℕ, _+_, _/_, _%_, _^_, _<_}
 use mathlib.Core.Path.{_≡_}
 use mathlib.Core.Bool.{Bool, true, false}

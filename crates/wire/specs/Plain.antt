@@ -1,4 +1,5 @@
 -- Numbers, splices, refusals in order and tables once more in literal numbers, at byte places: the plain twins of Bytes, First and Table.
+-- Each is proved in proofs/PlainLaws under its own name in small letters: Numbers by numbers, ZeroTest by zero-test, and so on.
 use Prim.Native.Nat.{ℕ, _+_, _*_, _/_, _%_, _≤_, _<_}
 use mathlib.Core.Path.{_≡_}
 use mathlib.Core.Bool.{true, false}
@@ -39,7 +40,7 @@ pub record Spliced (at : ℕ) (bytes buffer : List ℕ) : Type 0 where
   pub inside : (i : ℕ) → i < length bytes → at + i < length buffer → byte (splice at bytes buffer) (at + i) ≡ byte bytes i
   pub behind : (i : ℕ) → at + length bytes ≤ i → byte (splice at bytes buffer) i ≡ byte buffer i
 
--- Every byte of d is zero.
+-- The test of zero bytes says yes exactly if every byte is zero.
 abbrev pub ZeroTest : List ℕ → Type 0
 ZeroTest d = (allZero d ≡ true) ↔ ((i : ℕ) → i < length d → byte d i ≡ 0)
 
