@@ -36,7 +36,7 @@ always-after station l (c ∷ cs) f always =
 
 -- one call puts out at most one PDU
 one-put-out : (e : Entry) → length (putOutBy e) ≤ 1
-one-put-out (offer-made d a) = omega arith
+one-put-out (offer-made d a store) = omega arith
 one-put-out (send-made i a out) = omega arith
 one-put-out (reply-heard r a) = omega arith
 one-put-out (record-heard r (arrivalRefused n) reply out) = omega arith

@@ -29,7 +29,7 @@ datagrams-append (time t ∷ a) b = datagrams-append a b
 
 -- an entry that gives the station a datagram puts that one out
 entry-heard : (e : Entry) → datagrams (eventsBy e) ≡ putOutBy e
-entry-heard (offer-made d a) = refl
+entry-heard (offer-made d a store) = refl
 entry-heard (send-made i a out) = refl
 entry-heard (reply-heard r a) = refl
 entry-heard (record-heard r (arrivalRefused n) reply out) = refl
@@ -46,12 +46,12 @@ all-heard (e ∷ log) = datagrams-append (events log) (eventsBy e) ∙ ap₂ _++
 
 -- what was accepted came from an entry
 Came : List ℕ → List Entry → Type 0
-Came p log = (d : List ℕ) × (i : ℕ) × List·Memᴰ (offer-made d (Taken i)) log × (p ≡ writtenForm d)
+Came p log = (d : List ℕ) × (i : ℕ) × (store : List ℕ) × List·Memᴰ (offer-made d (Taken i) store) log × (p ≡ writtenForm d)
 
 here : (p : List ℕ) (log : List Entry) (e : Entry) → List·Memᴰ p (acceptedBy e) → Came p (e ∷ log)
 unfolding Came
-here p log (offer-made d (offerRefused n)) m = absurd (List·Memᴰ·not-nil m)
-here p log (offer-made d (Taken i)) m = (d, i, List·Memᴰ·head refl, List·Memᴰ·eq-of-singleton m)
+here p log (offer-made d (offerRefused n) store) m = absurd (List·Memᴰ·not-nil m)
+here p log (offer-made d (Taken i) store) m = (d, i, store, List·Memᴰ·head refl, List·Memᴰ·eq-of-singleton m)
 here p log (send-made i a out) m = absurd (List·Memᴰ·not-nil m)
 here p log (reply-heard r a) m = absurd (List·Memᴰ·not-nil m)
 here p log (record-heard r a reply out) m = absurd (List·Memᴰ·not-nil m)
@@ -59,45 +59,56 @@ here p log (clock-set t a) m = absurd (List·Memᴰ·not-nil m)
 
 before : (p : List ℕ) (log : List Entry) (e : Entry) → Came p log → Came p (e ∷ log)
 unfolding Came
-before p log e c = (c .0, c .1, List·Memᴰ·tail (c .2), c .3)
+before p log e c = (c .0, c .1, c .2, List·Memᴰ·tail (c .3), c .4)
 
 came : (p : List ℕ) (log : List Entry) → List·Memᴰ p (accepted log) → Came p log
 came p [] m = absurd (List·Memᴰ·not-nil m)
 came p (e ∷ log) m = elim (List·Memᴰ·append-cases (accepted log) m) [ inl old ↦ before p log e (came p log old) | inr new ↦ here p log e new ]
 
 -- an entry of an offer came from a call of the list, or stood in the log before
-InList : List ℕ → Offer → Line → List Call → Type 0
-InList d a l calls = List·Memᴰ (offer-made d a) (l .log) ⊎ List·Memᴰ (offer d) calls
+InList : List ℕ → Offer → List ℕ → Line → List Call → Type 0
+InList d a store l calls = List·Memᴰ (offer-made d a store) (l .log) ⊎ List·Memᴰ (offer d) calls
 
 -- an entry of another call is none of an offer
 abbrev offers : Entry → ℕ
-offers (offer-made d a) = 1
+offers (offer-made d a store) = 1
 offers (send-made i a out) = 0
 offers (reply-heard r a) = 0
 offers (record-heard r a reply out) = 0
 offers (clock-set t a) = 0
 
-skip : (d : List ℕ) (a : Offer) (e : Entry) (log : List Entry) → offers e ≡ 0 → List·Memᴰ (offer-made d a) (e ∷ log) → List·Memᴰ (offer-made d a) log
-skip d a e log z m = elim (List·Memᴰ·cases-cons m) [ inl same ↦ absurd (never (ap offers same ∙ z)) | inr old ↦ old ]
+skip :
+    (d : List ℕ) (a : Offer) (store : List ℕ) (e : Entry) (log : List Entry)
+    → offers e ≡ 0
+    → List·Memᴰ (offer-made d a store) (e ∷ log)
+    → List·Memᴰ (offer-made d a store) log
+skip d a store e log z m = elim (List·Memᴰ·cases-cons m) [ inl same ↦ absurd (never (ap offers same ∙ z)) | inr old ↦ old ]
   where
     never : _≡_ {A = ℕ} 1 0 → ⊥
     never e = omega arith
 
-by-call : (d : List ℕ) (a : Offer) (l : Line) (c : Call) (cs : List Call) → List·Memᴰ (offer-made d a) (step l c .log) → InList d a l (c ∷ cs)
+by-call :
+    (d : List ℕ) (a : Offer) (store : List ℕ) (l : Line) (c : Call) (cs : List Call)
+    → List·Memᴰ (offer-made d a store) (step l c .log)
+    → InList d a store l (c ∷ cs)
 unfolding InList
-by-call d a l (offer x) cs m = elim (List·Memᴰ·cases-cons m) [ inl e ↦ inr (List·Memᴰ·head (ap offer (same-offer e))) | inr old ↦ inl old ]
+by-call d a store l (offer x) cs m = elim (List·Memᴰ·cases-cons m) [ inl e ↦ inr (List·Memᴰ·head (ap offer (same-offer e))) | inr old ↦ inl old ]
   where
-    same-offer : {b : Offer} → offer-made d a ≡ offer-made x b → d ≡ x
+    same-offer : {b : Offer} {after : List ℕ} → offer-made d a store ≡ offer-made x b after → d ≡ x
     same-offer e = cc
-by-call d a l (send i out) cs m = inl (skip d a _ (l .log) refl m)
-by-call d a l (to-near r) cs m = inl (skip d a _ (l .log) refl m)
-by-call d a l (to-far r reply out) cs m = inl (skip d a _ (l .log) refl m)
-by-call d a l (tick t) cs m = inl (skip d a _ (l .log) refl m)
+by-call d a store l (send i out) cs m = inl (skip d a store _ (l .log) refl m)
+by-call d a store l (to-near r) cs m = inl (skip d a store _ (l .log) refl m)
+by-call d a store l (to-far r reply out) cs m = inl (skip d a store _ (l .log) refl m)
+by-call d a store l (tick t) cs m = inl (skip d a store _ (l .log) refl m)
 
-in-list : (d : List ℕ) (a : Offer) (l : Line) (calls : List Call) → List·Memᴰ (offer-made d a) (run l calls .log) → InList d a l calls
+in-list :
+    (d : List ℕ) (a : Offer) (store : List ℕ) (l : Line) (calls : List Call)
+    → List·Memᴰ (offer-made d a store) (run l calls .log)
+    → InList d a store l calls
 unfolding InList
-in-list d a l [] m = inl m
-in-list d a l (c ∷ cs) m = elim (in-list d a (step l c) cs m) [ inl here ↦ by-call d a l c cs here | inr later ↦ inr (List·Memᴰ·tail later) ]
+in-list d a store l [] m = inl m
+in-list d a store l (c ∷ cs) m =
+    elim (in-list d a store (step l c) cs m) [ inl here ↦ by-call d a store l c cs here | inr later ↦ inr (List·Memᴰ·tail later) ]
 
 -- in a part of the accepted PDUs, so among them
 in-part : (p : List ℕ) (n : ℕ) (l : List (List ℕ)) → List·Memᴰ p (take n l) → List·Memᴰ p l
@@ -116,9 +127,10 @@ offered-before level net store calls p m =
     record {
       given = c .0;
       number = c .1;
-      call = elim (in-list (c .0) (Taken (c .1)) begin calls (c .2)) [ inl none ↦ absurd (List·Memᴰ·not-nil none) | inr call ↦ call ];
-      entry = c .2;
-      form = c .3;
+      call = elim (in-list (c .0) (Taken (c .1)) (c .2) begin calls (c .3)) [ inl none ↦ absurd (List·Memᴰ·not-nil none) | inr call ↦ call ];
+      store = c .2;
+      entry = c .3;
+      form = c .4;
     }
 
 pub consequences :

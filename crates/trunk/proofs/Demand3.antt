@@ -3,12 +3,13 @@
 -- Assumes nothing.
 use Prim.Native.Nat.{ℕ, _+_, _≤_, _<_, max}
 use mathlib.Core.Path.{_≡_, refl, sym, ap, ap₂, subst, _∙_}
-use mathlib.Core.List.{List, [], _∷_, _++_, List·Memᴰ, List·Memᴰ·not-nil, Memᴰ·append-right}
+use mathlib.Core.List.{List, [], _∷_, _++_, List·Memᴰ, List·Memᴰ·not-nil, Memᴰ·append-right, map, map-append}
 use lib.ListN.{length, take, drop}
 use lib.Seq.{take-at}
 use native.Mathlib.Omega.{arith}
 use Rattle.wire.specs.Bytes.{Bytes}
-use Rattle.pdu.specs.Writing.{writtenForm}
+use Rattle.pdu.specs.Writing.{writtenForm, paddingZero}
+use Rattle.pdu.proofs.RoundTrip.{written-form-back}
 use Rattle.station.specs.Runs.{datagram, time}
 use Rattle.station.specs.Hearing.{heard}
 use Rattle.station.specs.Units.{made}
@@ -19,66 +20,75 @@ use Rattle.trunk.specs.Record.{replyOf, numberIn, carriedIn}
 use Rattle.trunk.specs.Near.{rowKind, offerRecord, replied}
 use Rattle.trunk.specs.Far.{ticked}
 use Rattle.trunk.specs.Line.{Entry, offer-made, send-made, reply-heard, record-heard, clock-set, Call, offer, send, to-near, to-far, tick}
-use Rattle.trunk.specs.Line.{Line, start, step, run, accepted, acknowledged, written, Allowed, Fair}
-use Rattle.trunk.specs.Demand.{pduAt, count, Says, AllSay, Demand3}
+use Rattle.trunk.specs.Line.{Line, start, step, run, accepted, acceptedBy, acknowledged, written, Allowed, Fair}
+use Rattle.trunk.specs.Demand.{pduAt, recordAt, given, givenBy, count, Says, AllSay, Demand3}
 use Rattle.trunk.specs.declared.Near.{Near}
 use Rattle.trunk.specs.declared.Far.{Far}
 use Rattle.trunk.specs.declared.Offered.{Offered}
 use Rattle.trunk.specs.declared.Sending.{Sending}
 use Rattle.trunk.specs.declared.Replied.{Replied}
 use Rattle.trunk.specs.declared.Arrived.{Arrived}
-use Rattle.trunk.proofs.RecordLaws.{reply-written}
+use Rattle.trunk.proofs.RecordLaws.{reply-plain, reply-written}
 use Rattle.trunk.proofs.RuleLaws.{offer-met, held-met, reply-met, pdu-met}
 use Rattle.trunk.proofs.CallLaws.{OfferOutcome, offer-refused, offer-taken, offer-outcome, SendOutcome, send-refused, send-taken}
 use Rattle.trunk.proofs.CallLaws.{send-outcome, ReplyOutcome, reply-refused, reply-taken, reply-outcome, ArrivalOutcome, arrival-refused}
 use Rattle.trunk.proofs.CallLaws.{arrival-delivered, arrival-repeat, arrival-early, arrival-outcome}
-use Rattle.trunk.proofs.LogLaws.{Seen, seen, more, adds-nothing, adds-accepted, writing, adds-written, confirming, delivering, adds-delivered}
-use Rattle.trunk.proofs.LogLaws.{adds-timed}
+use Rattle.trunk.proofs.LogLaws.{Seen, seen, more, accepting, adds-nothing, adds-accepted, writing, adds-written, confirming}
+use Rattle.trunk.proofs.LogLaws.{delivering, adds-delivered, adds-timed}
 use Rattle.trunk.proofs.Progress.{replied-next, acknowledged-next}
-use Rattle.trunk.proofs.Invariant.{reply-record, Holds, writes, offer-keeps, held-size, held-written, send-keeps, larger, reply-keeps}
-use Rattle.trunk.proofs.Invariant.{known-bytes, arriving, delivery-keeps, clock-keeps}
+use Rattle.trunk.proofs.Invariant.{reply-record, Holds, writes, offer-record, offer-row, offer-keeps, held-size, held-written}
+use Rattle.trunk.proofs.Invariant.{send-keeps, larger, reply-keeps, known-bytes, arriving, delivery-keeps, clock-keeps}
 
--- after a log: the invariant, and every entry says what it should
+-- after a log: the invariant, what was accepted is what was offered with padding zero, and every entry says what it should
 pub record Stands (station : Station) (near : Near) (store : List ℕ) (far : Far) (log : List Entry) : Type 0 where
   pub holds : Holds station near store far (seen log)
+  pub as-given : accepted log ≡ map paddingZero (given log)
   pub all-say : AllSay log
 
 module _ {station : Station} {near : Near} {store : List ℕ} {far : Far} {log : List Entry} (s : Stands station near store far log) where
   -- an entry, with what it says
   also :
       {near′ : Near} {store′ : List ℕ} {far′ : Far} {v : Seen} (e : Entry)
+      → acceptedBy e ≡ map paddingZero (givenBy e)
       → seen (e ∷ log) ≡ v
       → Holds station near′ store′ far′ v
       → Says e log
       → Stands station near′ store′ far′ (e ∷ log)
-  also {near′} {store′} {far′} e same holds says =
-      record { holds = subst (Holds station near′ store′ far′) (sym same) holds; all-say = (says, s .all-say) }
+  also {near′} {store′} {far′} e form same holds says =
+      record {
+        holds = subst (Holds station near′ store′ far′) (sym same) holds;
+        as-given = ap₂ _++_ (s .as-given) form ∙ sym (map-append paddingZero (given log) (givenBy e));
+        all-say = (says, s .all-say);
+      }
 
   after-offer :
       (d : List ℕ)
       → Bytes d
       → {o : Offered} {store′ : List ℕ}
       → OfferOutcome near store d o store′
-      → Stands station (o .near) store′ far (offer-made d (o .answer) ∷ log)
-  after-offer d b (offer-refused n f) = also _ (adds-nothing (seen log)) (s .holds) tt
+      → Stands station (o .near) store′ far (offer-made d (o .answer) store′ ∷ log)
+  after-offer d b (offer-refused n f) = also _ refl (adds-nothing (seen log)) (s .holds) tt
   after-offer d b (offer-taken m) =
+      let met = offer-met near store d m in
+      let row = offer-row (s .holds) d b met in
       also _
-      (adds-accepted (seen log) (writtenForm d) (offerRecord near d))
-      (offer-keeps (s .holds) d b (offer-met near store d m))
-      (s .holds .counts .near-accepted)
+      (ap (λ (p : List ℕ). p ∷ []) (written-form-back d (met .taken)))
+      (adds-accepted (seen log) (writtenForm d) _ ∙ ap (accepting (seen log) (writtenForm d)) (row ∙ sym (offer-record (s .holds) d b met)))
+      (offer-keeps (s .holds) d b met)
+      (s .holds .counts .near-accepted, row)
 
   after-send :
       (i : ℕ) (out : List ℕ) {o : Sending} {out′ : List ℕ}
       → SendOutcome near store i out o out′
       → Stands station (o .near) store far (send-made i (o .answer) out′ ∷ log)
-  after-send i out (send-refused n f) = also _ (adds-nothing (seen log)) (s .holds) tt
+  after-send i out (send-refused n f) = also _ refl (adds-nothing (seen log)) (s .holds) tt
   after-send i out (send-taken m) =
       let h = s .holds in
       let within = held-met near store i (length out) m in
       let held : acknowledged log ≤ i = omega (arith, within .0, h .counts .near-acknowledged) in
       let below : i < length (accepted log) = omega (arith, within .1, h .counts .near-accepted) in
       let record-is = held-written h i held below (drop (recordSize (rowKind store i)) out) in
-      also _
+      also _ refl
       (adds-written (seen log) _ ∙ ap (writing (seen log)) record-is)
       (send-keeps h i held below)
       (below, record-is, held-size h i held below)
@@ -89,9 +99,9 @@ module _ {station : Station} {near : Near} {store : List ℕ} {far : Far} {log :
       → {o : Replied}
       → ReplyOutcome near r o
       → Stands station (o .near) store far (reply-heard r (o .answer) ∷ log)
-  after-reply r w (reply-refused n f) = also _ (adds-nothing (seen log)) (s .holds) tt
+  after-reply r w (reply-refused n f) = also _ refl (adds-nothing (seen log)) (s .holds) tt
   after-reply r w (reply-taken m) =
-      also _
+      also _ refl
       (adds-nothing (confirming (seen log) (max (acknowledged log) (numberIn r))))
       (reply-keeps (s .holds) r (s .holds .known r w) (reply-met near r m))
       (larger (s .holds) (numberIn r))
@@ -115,25 +125,25 @@ module _ {station : Station} {near : Near} {store : List ℕ} {far : Far} {log :
       → {o : Arrived} {reply′ out′ : List ℕ}
       → ArrivalOutcome far r reply out o reply′ out′
       → Stands station near store (o .far) (record-heard r (o .answer) reply′ out′ ∷ log)
-  after-arrival r reply out w (arrival-refused n f) = also _ (adds-nothing (seen log)) (s .holds) tt
+  after-arrival r reply out w (arrival-refused n f) = also _ refl (adds-nothing (seen log)) (s .holds) tt
   after-arrival r reply out w (arrival-delivered m e) =
       let this = arriving (s .holds) r (s .holds .known r w) (pdu-met r _ _ m) in
       let number : numberIn r ≡ count log = e ∙ s .holds .counts .far-count in
       let pdu = take-at (carriedIn r) (drop (length (carriedIn r)) out) (length (carriedIn r)) refl in
       let answered = reply-written (far .count + 1) (drop headSize reply) in
       let said : ℕ = heard (far .station) (carriedIn r) .answer in
-      also _
+      also _ refl
       (adds-delivered (seen log) _ _ _ _ ∙ ap₂ (λ (p q : List ℕ). delivering (seen log) p q (datagram p) said) pdu answered)
       (delivery-keeps (s .holds) r this e)
-      (ap length (this .pdu ∙ ap (pduAt log) number), answered ∙ ap (λ (n : ℕ). replyOf (n + 1)) (s .holds .counts .far-count))
+      (ap length (this .pdu ∙ ap (pduAt log) number), answered ∙ ap (λ (n : ℕ). replyOf (n + 1)) (s .holds .counts .far-count) ∙ reply-plain _)
   after-arrival r reply out w (arrival-repeat m l) =
-      also _ (written-again reply) again (replied-again reply ∙ ap replyOf (s .holds .counts .far-count))
+      also _ refl (written-again reply) again (replied-again reply ∙ ap replyOf (s .holds .counts .far-count) ∙ reply-plain _)
   after-arrival r reply out w (arrival-early m l) =
-      also _ (written-again reply) again (replied-again reply ∙ ap replyOf (s .holds .counts .far-count))
+      also _ refl (written-again reply) again (replied-again reply ∙ ap replyOf (s .holds .counts .far-count) ∙ reply-plain _)
 
   after-clock : (t : ℕ) → Stands station near store (ticked far t .far) (clock-set t (ticked far t .answer) ∷ log)
   unfolding ticked
-  after-clock t = also _ (adds-timed (seen log) (time t) _) (clock-keeps (s .holds) t) tt
+  after-clock t = also _ refl (adds-timed (seen log) (time t) _) (clock-keeps (s .holds) t) tt
 
 -- ---- a list of calls
 
@@ -174,6 +184,7 @@ start-stands level net store =
             in-order = refl;
             played = record { stands = refl; answered = refl };
           };
+      as-given = refl;
       all-say = tt;
     }
 
@@ -184,6 +195,7 @@ stands-demand l s =
     let h = s .holds in
     record {
       in-order = h .in-order;
+      padding-zero = h .in-order ∙ ap (take (count (l .log))) (s .as-given);
       acknowledged-put-out = h .counts .acknowledged-put-out;
       put-out-accepted = h .counts .put-out-accepted;
       window = h .counts .window;

@@ -16,12 +16,11 @@ use Rattle.wire.specs.Rules.{Rule, Met, FirstBroken}
 use Rattle.wire.specs.Rules.{Verdict}
 use Rattle.station.specs.Hearing.{heard}
 use Rattle.trunk.specs.Kinds.{load, isNothing, recordSize}
-use Rattle.trunk.specs.Record.{kindIn, numberIn, carriedIn, isReply, checkRules, checked}
+use Rattle.trunk.specs.Record.{kindIn, numberIn, carriedIn, isReply, checkRules, checked, checkedSays}
 use Rattle.trunk.specs.Near.{rowKind, acknowledgedAfter, offerSays, sendSays, replySays, offered, sent, replied}
 use Rattle.trunk.specs.Far.{arrived, arrivalSays}
-use Rattle.trunk.specs.Exactly.{OfferExactly, SendExactly, ReplyExactly, ArriveExactly, CheckExactly}
+use Rattle.trunk.specs.Exactly.{OfferExactly, SendExactly, ReplyExactly, ArriveExactly, CheckExactly, AnswersSay}
 use Rattle.trunk.specs.Plain.{plainOffer, plainSend, plainReply, plainArrival, plainCheck}
-use Rattle.trunk.specs.declared.Checked.{Checked}
 use Rattle.trunk.specs.declared.Checked.the-variants.{Refused as checkRefused, Reply as aReply, Pdu}
 use Rattle.trunk.specs.declared.Near.{Near}
 use Rattle.trunk.specs.declared.Far.{Far}
@@ -60,7 +59,7 @@ refused-as refuse says back ps v m f n = (
 )
 
 -- all rules hold, and one is the first that does not
-clash : {rs : List Refusal} (ps : List Rule) → Verdict rs ps → (n : ℕ) → FirstBroken n ps → ¬ Met ps
+pub clash : {rs : List Refusal} (ps : List Rule) → Verdict rs ps → (n : ℕ) → FirstBroken n ps → ¬ Met ps
 clash ps v n f m = let x = v .some n .1 f in x .1 (sym (x .0) ∙ v .none .1 m)
 
 -- ---- offering
@@ -232,12 +231,6 @@ check-no-reply n number size e = let z : _≡_ {A = ℕ} 0 1 = cc in omega arith
 reply-no-pdu : (a b kind number size : ℕ) → aReply a b ≢ Pdu kind number size
 reply-no-pdu a b kind number size e = let z : _≡_ {A = ℕ} 0 1 = cc in omega arith
 
--- the number of a check's refusal, as a list
-abbrev checkSays : Checked → List ℕ
-checkSays (checkRefused n) = n ∷ []
-checkSays (aReply number size) = []
-checkSays (Pdu kind number size) = []
-
 same-reply : (a b number size : ℕ) → aReply a b ≡ aReply number size → (number ≡ a) × (size ≡ b)
 same-reply a b number size e = (cc, cc)
 
@@ -285,7 +278,33 @@ check-exactly-when r b = by (eqb (first (checkRules r)) 0) refl (isNothing (load
         let f : FirstBroken m (plainCheck r) = v .some m .0 (refl, eqb-false _ _ some) in
         subst (CheckExactly r) (sym (rw some))
         record {
-          refused = refused-as checkRefused checkSays (λ n. refl) (plainCheck r) v m f;
+          refused = refused-as checkRefused checkedSays (λ n. refl) (plainCheck r) v m f;
           reply = λ number size. neither-holds (check-no-reply m number size) (λ x. clash (plainCheck r) v m f (x .0));
           pdu = λ k number size. neither-holds (check-no-pdu m k number size) (λ x. clash (plainCheck r) v m f (x .0));
         }
+
+-- ---- what each case of each answer says
+
+pub answers-say : AnswersSay
+answers-say =
+    record {
+      offer-refused = λ n. refl;
+      offer-taken = λ number. refl;
+      send-refused = λ n. refl;
+      send-size = λ size. refl;
+      reply-refused = λ n. refl;
+      reply-acknowledged = λ count. refl;
+      arrival-refused = λ n. refl;
+      arrival-delivered = λ size answer. refl;
+      arrival-repeat = refl;
+      arrival-early = refl;
+      check-refused = λ n. refl;
+      check-reply = λ number size. refl;
+      check-pdu = λ kind number size. refl;
+      number-refused = λ n. refl;
+      number-reply = λ number size. refl;
+      number-pdu = λ kind number size. refl;
+      size-refused = λ n. refl;
+      size-reply = λ number size. refl;
+      size-pdu = λ kind number size. refl;
+    }

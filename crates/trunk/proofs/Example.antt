@@ -148,7 +148,7 @@ pub data Said : Type 0 where
   clock-said : Said
 
 unfoldable pub said : Entry → Said
-said (offer-made d a) = offer-said a
+said (offer-made d a store) = offer-said a
 said (send-made i a out) = send-said a
 said (reply-heard r a) = reply-said a
 said (record-heard r (arrivalRefused n) reply out) = refused-at-far n

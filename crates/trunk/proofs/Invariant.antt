@@ -25,11 +25,12 @@ use Rattle.trunk.specs.Record.{headFor, recordOf, replyOf, kindIn, numbe
 use Rattle.trunk.specs.Near.{rows, rowSize, storeSize, rowStart, rowKind, rowRecord, offerRecord, oneAccepted, stored}
 use Rattle.trunk.specs.Near.{acknowledgedAfter, acknowledging}
 use Rattle.trunk.specs.Far.{delivered, ticked}
+use Rattle.trunk.specs.Plain.{recordFor, plainLength, plainRowKind, plainRow}
 use Rattle.trunk.specs.declared.Near.{Near}
 use Rattle.trunk.specs.declared.Far.{Far}
-use Rattle.trunk.proofs.KindLaws.{no-reply-says, record-small}
-use Rattle.trunk.proofs.RecordLaws.{type-says, Carried, carried-kind, carried-form, carried-in, record-bytes, recordFor, pdu-kind}
-use Rattle.trunk.proofs.RecordLaws.{pdu-number, pdu-length, reply-sound}
+use Rattle.trunk.proofs.KindLaws.{no-reply-says, record-small, plain-length}
+use Rattle.trunk.proofs.RecordLaws.{type-says, Carried, carried-kind, carried-form, record-bytes, record-for, pdu-kind, pdu-number}
+use Rattle.trunk.proofs.RecordLaws.{pdu-length, pdu-carried, pdu-bytes, reply-sound}
 use Rattle.trunk.proofs.RuleLaws.{OfferMet}
 use Rattle.trunk.proofs.CallLaws.{after-is-max}
 use Rattle.trunk.proofs.RowLaws.{RowHolds, row-written, row-kept, rows-differ, row-kind}
@@ -78,6 +79,19 @@ pub record Holds (station : Station) (near : Near) (store : List ℕ) (far : Far
   pub recorded : (i : ℕ) → i < length (v .pdus) → List·Memᴰ (recordIn (v .pdus) i) (v .records)
   pub in-order : v .out ≡ take (length (v .out)) (v .pdus)
   pub played : Played station (far .station) (v .calls) (v .said)
+
+-- the row of a carried PDU's record, to the length of its kind, is that record
+row-record :
+    (store : List ℕ) (i : ℕ) (pdu : List ℕ)
+    → Carried pdu
+    → i < lastNumber
+    → RowHolds store i (recordFor i pdu)
+    → plainRow store i ≡ recordFor i pdu
+row-record store i pdu c l holds =
+    let kind = row-kind store i (recordFor i pdu) (omega arith) holds ∙ pdu-kind i pdu c l in
+    let size : plainLength (plainRowKind store i) ≡ length (recordFor i pdu) =
+    sym (plain-length (plainRowKind store i)) ∙ ap recordSize kind ∙ sym (pdu-length i pdu c l) in
+    ap (λ (n : ℕ). take n (drop (rowStart i) store)) size ∙ holds
 
 -- ---- one more PDU
 
@@ -157,7 +171,9 @@ module _ {station : Station} {near : Near} {store : List ℕ} {far : Far} {v : S
 
     -- what it writes is the new PDU's record
     new-record : offerRecord near d ≡ recordFor (length (v .pdus)) (writtenForm d)
-    new-record = ap₂ (λ (r : Reading) (n : ℕ). recordOf (headFor (kindOf r) n) (writtenForm d)) (sym (form .1)) (h .counts .near-accepted)
+    new-record =
+        ap₂ (λ (r : Reading) (n : ℕ). recordOf (headFor (kindOf r) n) (writtenForm d)) (sym (form .1)) (h .counts .near-accepted)
+        ∙ record-for (length (v .pdus)) (writtenForm d) (form .0 .kind)
 
     new-fits : length (offerRecord near d) ≤ rowSize
     new-fits =
@@ -209,6 +225,21 @@ module _ {station : Station} {near : Near} {store : List ℕ} {far : Far} {v : S
         new held =
             subst₂ Row (h .counts .near-accepted) stored-record
             (row-written store (near .accepted) (offerRecord near d) (m .whole) new-fits)
+
+    -- what it wrote, under its own number
+    pub offer-record : offerRecord near d ≡ recordIn (v .pdus ++ (writtenForm d ∷ [])) (near .accepted)
+    offer-record = stored-record ∙ ap (recordIn (v .pdus ++ (writtenForm d ∷ []))) (sym (h .counts .near-accepted))
+
+    -- and so its row, to the length of its kind
+    pub offer-row : plainRow (stored near store d) (near .accepted) ≡ recordIn (v .pdus ++ (writtenForm d ∷ [])) (near .accepted)
+    offer-row =
+        let all : List (List ℕ) = v .pdus ++ (writtenForm d ∷ []) in
+        let same : near .accepted ≡ length (v .pdus) = h .counts .near-accepted in
+        let written = row-written store (near .accepted) (offerRecord near d) (m .whole) new-fits in
+        row-record (stored near store d) (near .accepted) (getD all (near .accepted) [])
+        (offer-carried (near .accepted) (omega (arith, same, longer (v .pdus) (writtenForm d))))
+        (omega (arith, same, room))
+        (subst (RowHolds (stored near store d) (near .accepted)) offer-record written)
 
     pub offer-keeps : Holds station (oneAccepted near) (stored near store d) far (accepting v (writtenForm d) (offerRecord near d))
     offer-keeps =
@@ -310,7 +341,7 @@ module _ {station : Station} {near : Near} {store : List ℕ} {far : Far} {v : S
   -- ---- a record at the far end
 
   pub known-bytes : (r : List ℕ) → Known (v .pdus) (length (v .out)) r → Bytes r
-  known-bytes r (pdu-record i l e) = subst Bytes (sym e) (record-bytes _ (getD (v .pdus) i []) (h .held .carried i l .bytes))
+  known-bytes r (pdu-record i l e) = subst Bytes (sym e) (pdu-bytes i (getD (v .pdus) i []) (h .held .carried i l) (small i l))
   known-bytes r (reply-record j l e) = subst Bytes (sym e) (record-bytes (headFor replyKind j) [] (λ i. omega arith))
 
   -- what is written and is no reply is the record of a PDU
@@ -320,7 +351,7 @@ module _ {station : Station} {near : Near} {store : List ℕ} {far : Far} {v : S
       let number : numberIn r ≡ i = ap numberIn e ∙ pdu-number i p (h .held .carried i l) (small i l) in
       record {
         accepted = omega (arith, number);
-        pdu = ap carriedIn e ∙ carried-in (headFor (kindOf (reading p)) i) p ∙ ap (λ (n : ℕ). getD (v .pdus) n []) (sym number);
+        pdu = ap carriedIn e ∙ pdu-carried i p (h .held .carried i l) (small i l) ∙ ap (λ (n : ℕ). getD (v .pdus) n []) (sym number);
       }
   arriving r (reply-record j l e) other =
       absurd (other (ap kindIn e ∙ reply-sound j (omega (arith, h .counts .put-out-accepted, h .counts .few)) .kind-is))

@@ -4,8 +4,10 @@ pub mod RecordLaws
 pub mod WriteLaws
 pub mod EndLaws
 pub mod RuleLaws
+pub mod Refused
 pub mod CallLaws
 pub mod ExactlyWhen
+pub mod Leaves
 pub mod RowLaws
 pub mod LogLaws
 pub mod Invariant

@@ -2,18 +2,18 @@
 -- record's head and carried bytes read back; and the record of a carried PDU, or a reply, breaks no rule on records. What is cited of the
 -- reader and the writer stands here and in WriteLaws.
 -- Assumes nothing.
-use Prim.Native.Nat.{ℕ, _+_, _≤_, _<_}
+use Prim.Native.Nat.{ℕ, _+_, _%_, _≤_, _<_}
 use mathlib.Core.Path.{_≡_, refl, sym, ap, subst, _∙_}
 use mathlib.Core.Logic.{_↔_, _≢_, Iff·trans}
 use mathlib.Core.Bool.{Bool, true, false, cond, not, _&&_, and-false}
-use mathlib.Core.List.{List, [], _++_}
+use mathlib.Core.List.{List, [], _∷_, _++_}
 use lib.ListN.{length, take, length-append}
 use lib.Seq.{take-at, drop-at}
 use lib.Dec.{eqb}
 use native.Mathlib.Nat.{zero-add}
 use native.Mathlib.Omega.{arith}
 use borrow.Author.Tests.{eqb-true, eqb-false, eq-eqb, ne-eqb}
-use Rattle.wire.specs.Bytes.{Bytes}
+use Rattle.wire.specs.Bytes.{big, Bytes}
 use Rattle.wire.specs.Table.{Fit}
 use Rattle.wire.proofs.TableLaws.{read-fill, length-fill}
 use Rattle.wire.proofs.FitLaws.{bytes-append, bytes-fill}
@@ -32,7 +32,7 @@ use Rattle.trunk.specs.Head.{headTable, headSize, headValues, headAt, he
 use Rattle.trunk.specs.Kinds.{load, loadSize, isUnknown, isNothing, recordSize, replyKind, noKind, kindFor, loadOf, loadOfSignal, kindOf}
 use Rattle.trunk.specs.Record.{headFor, recordOf, replyOf, kindIn, numberIn, carriedIn, lastNumber, unknownKind, wrongSize, isReply}
 use Rattle.trunk.specs.Record.{lastOfAll, wrongCarried}
-use Rattle.trunk.specs.Plain.{signal, transmitter, TypeRule, OfKind}
+use Rattle.trunk.specs.Plain.{signal, transmitter, plainKind, recordWith, replyWith, recordFor, TypeRule, OfKind}
 use Rattle.trunk.specs.declared.Head.{Head}
 use Rattle.trunk.specs.declared.Load.{Load}
 use Rattle.trunk.specs.declared.Load.the-variants.{Words, Transmitter, Unknown}
@@ -198,13 +198,38 @@ module _ (head : Head) (pdu : List ℕ) where
 pub head-fits : (kind number : ℕ) → kind < 256 → number ≤ lastNumber → Fit headTable (headValues (headFor kind number))
 head-fits kind number k n = (k, (omega arith, refl))
 
+-- ---- records in plain numbers
+
+-- the kind of a datagram that is carried
+pub plain-kind : (d : List ℕ) → kindOf (reading d) ≢ noKind → kindOf (reading d) ≡ plainKind (reading d)
+plain-kind d h = by (reading d) h
+  where
+    by : (r : Reading) → kindOf r ≢ noKind → kindOf r ≡ plainKind r
+    by (Refused n) c = absurd (c refl)
+    by (aTransmitter t) c = refl
+    by (aSignal s n) c = ap (λ (t : ℕ). kindFor (loadOfSignal t n)) (carried-type (s .network .«message_type») n c) ∙ zero-add (wordsIn n)
+
+-- a record is its kind, its number in 4 bytes, and what it carries
+pub record-plain : (kind number : ℕ) (pdu : List ℕ) → kind < 256 → recordOf (headFor kind number) pdu ≡ recordWith kind number pdu
+unfolding recordOf
+record-plain kind number pdu byte =
+    let same : kind % 256 ≡ kind = omega arith in
+    ap (λ (k : ℕ). recordWith k number pdu) same
+
+pub record-for :
+    (number : ℕ) (pdu : List ℕ)
+    → kindOf (reading pdu) ≢ noKind
+    → recordOf (headFor (kindOf (reading pdu)) number) pdu ≡ recordFor number pdu
+record-for number pdu h =
+    record-plain _ number pdu (carried-kind pdu h .byte) ∙ ap (λ (k : ℕ). recordWith k number pdu) (plain-kind pdu h)
+
+pub reply-plain : (number : ℕ) → replyOf number ≡ replyWith number
+unfolding recordOf
+reply-plain number = refl
+
 -- ---- the rules on records
 
--- the record of a carried PDU
-abbrev pub recordFor : ℕ → List ℕ → List ℕ
-recordFor number pdu = recordOf (headFor (kindOf (reading pdu)) number) pdu
-
--- it breaks none of 20, 21, 29, 25 and 22
+-- the record of a carried PDU breaks none of 20, 21, 29, 25 and 22
 pub record Sound (r : List ℕ) : Type 0 where
   pub known : unknownKind r ≡ false
   pub sized : wrongSize r ≡ false
@@ -213,8 +238,11 @@ pub record Sound (r : List ℕ) : Type 0 where
   pub right : wrongCarried r ≡ false
 
 module _ (number : ℕ) (pdu : List ℕ) (c : Carried pdu) (h : number < lastNumber) where
+  plainly : recordOf (headFor (kindOf (reading pdu)) number) pdu ≡ recordFor number pdu
+  plainly = record-for number pdu (c .kind)
+
   pdu-head : headAt 0 (recordFor number pdu) ≡ headFor (kindOf (reading pdu)) number
-  pdu-head = head-read _ pdu (head-fits _ number (carried-kind pdu (c .kind) .byte) (omega arith))
+  pdu-head = ap (headAt 0) (sym plainly) ∙ head-read _ pdu (head-fits _ number (carried-kind pdu (c .kind) .byte) (omega arith))
 
   pub pdu-kind : kindIn (recordFor number pdu) ≡ kindOf (reading pdu)
   pdu-kind = ap (λ (x : Head). x .kind) pdu-head
@@ -223,7 +251,13 @@ module _ (number : ℕ) (pdu : List ℕ) (c : Carried pdu) (h : number < lastNum
   pdu-number = ap (λ (x : Head). x .number) pdu-head
 
   pub pdu-length : length (recordFor number pdu) ≡ recordSize (kindOf (reading pdu))
-  pdu-length = length-record _ pdu ∙ ap (λ (n : ℕ). headSize + n) (carried-length pdu c)
+  pdu-length = ap length (sym plainly) ∙ length-record _ pdu ∙ ap (λ (n : ℕ). headSize + n) (carried-length pdu c)
+
+  pub pdu-carried : carriedIn (recordFor number pdu) ≡ pdu
+  pdu-carried = ap carriedIn (sym plainly) ∙ carried-in _ pdu
+
+  pub pdu-bytes : Bytes (recordFor number pdu)
+  pdu-bytes = subst Bytes plainly (record-bytes _ pdu (c .bytes))
 
   pub pdu-sound : Sound (recordFor number pdu)
   unfolding unknownKind wrongSize isReply lastOfAll wrongCarried
@@ -234,7 +268,7 @@ module _ (number : ℕ) (pdu : List ℕ) (c : Carried pdu) (h : number < lastNum
         sized = rw pdu-kind (ap not (eq-eqb _ _ pdu-length));
         no-reply = rw (pdu-kind, k .no-reply);
         not-last = rw (pdu-number, ne-eqb number lastNumber (λ e. omega arith), and-false);
-        right = rw (pdu-kind, carried-in (headFor (kindOf (reading pdu)) number) pdu, c .form, eq-eqb (kindOf (reading pdu)) _ refl, and-false);
+        right = rw (pdu-kind, pdu-carried, c .form, eq-eqb (kindOf (reading pdu)) _ refl, and-false);
       }
 
 -- a reply breaks neither 20 nor 21, and is a reply with its number

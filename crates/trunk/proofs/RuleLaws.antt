@@ -18,8 +18,8 @@ use Rattle.wire.proofs.RuleLaws.{equal, at-most, below, not-below, negated, bot
 use Rattle.wire.specs.Rules.{Verdict}
 use Rattle.pdu.specs.Reading.{refusal}
 use Rattle.trunk.specs.Head.{headSize}
-use Rattle.trunk.specs.Kinds.{longestPdu}
-use Rattle.trunk.specs.Record.{carriedIn, unknownKind, wrongSize, isReply, lastOfAll, wrongCarried, formRules, pduRules, checkRules}
+use Rattle.trunk.specs.Kinds.{longestPdu, replyKind}
+use Rattle.trunk.specs.Record.{kindIn, carriedIn, unknownKind, wrongSize, isReply, lastOfAll, wrongCarried, formRules, pduRules, checkRules}
 use Rattle.trunk.specs.Near.{rows, wrongStore, offerRulesOf, offerRules, isHeld, sendRules, replyRules}
 use Rattle.trunk.specs.Far.{noRoom, arrivalRules}
 use Rattle.trunk.specs.Plain.{StoreRule, NumberRule, WindowRule, RoomRule, ReplyKind, KindRule, LengthRule, CarriedRule, TypeRule}
@@ -49,6 +49,10 @@ length-says r =
 is-reply-says : (r : List ℕ) → (not (isReply r) ≡ false) ↔ ReplyKind (num 1 0 r)
 unfolding isReply
 is-reply-says r = negated _ (reply-says (num 1 0 r))
+
+pub reply-kind : (r : List ℕ) → isReply r ≡ true → kindIn r ≡ replyKind
+unfolding isReply
+reply-kind r = reply-says (num 1 0 r) .0
 
 is-pdu-says : (r : List ℕ) → (isReply r ≡ false) ↔ ¬ ReplyKind (num 1 0 r)
 unfolding isReply
@@ -196,7 +200,7 @@ pdu-says : (r : List ℕ) → (not (isReply r) ≡ true) ↔ ¬ ReplyKind (num 1
 pdu-says r = (λ e. is-pdu-says r .0 (not-true _ e), λ h. ap not (is-pdu-says r .1 h))
 
 pub check-verdict : (r : List ℕ) → Bytes r → Verdict (checkRules r) (plainCheck r)
-unfolding checkRules formRules pduRules lastOfAll wrongCarried
+unfolding formRules pduRules lastOfAll wrongCarried
 check-verdict r b =
     verdict
     (kind-says r

@@ -16,12 +16,13 @@ datagrams [] = []
 datagrams (datagram d ∷ cs) = d ∷ datagrams cs
 datagrams (time t ∷ cs) = datagrams cs
 
--- a PDU that an offer of a list of calls brought: the offer, the number that it took, and the PDU as the writer gives it
+-- a PDU that an offer of a list of calls brought: the offer, the number that it took, the store after it, and the PDU as the writer gives it
 pub record WasOffered (p : List ℕ) (calls : List Call) (log : List Entry) : Type 0 where
   pub given : List ℕ
   pub number : ℕ
   pub call : List·Memᴰ (offer given) calls
-  pub entry : List·Memᴰ (offer-made given (Taken number)) log
+  pub store : List ℕ
+  pub entry : List·Memᴰ (offer-made given (Taken number) store) log
   pub form : p ≡ writtenForm given
 
 -- what holds after a list of calls, the line that they bring about given

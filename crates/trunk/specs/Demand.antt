@@ -1,17 +1,15 @@
 -- Demand 3, sentence by sentence (01, "What demand 3 means"): what holds after every fair list of calls.
 use Prim.Native.Nat.{ℕ, _+_, _≤_, _<_}
 use mathlib.Core.Path.{_≡_}
-use mathlib.Core.List.{List, [], _∷_}
+use mathlib.Core.List.{List, [], _∷_, map}
 use lib.ListN.{length, getD, take}
-use Rattle.pdu.specs.Reading.{reading}
+use Rattle.pdu.specs.Writing.{paddingZero}
 use Rattle.station.specs.Runs.{after, answers}
 use Rattle.station.specs.declared.Station.{Station}
-use Rattle.trunk.specs.Head.{headSize}
-use Rattle.trunk.specs.Kinds.{kindOf}
-use Rattle.trunk.specs.Record.{headFor, recordOf, replyOf}
+use Rattle.trunk.specs.Plain.{recordFor, replyWith, plainRow}
 use Rattle.trunk.specs.Far.{replyAfter}
-use Rattle.trunk.specs.Line.{Entry, offer-made, send-made, reply-heard, record-heard, clock-set, Call, to-near, to-far, Line, run, accepted}
-use Rattle.trunk.specs.Line.{putOut, acknowledged, events, stationSaid, Fair}
+use Rattle.trunk.specs.Line.{Entry, offer-made, send-made, reply-heard, record-heard, clock-set, Call, to-near, to-far, Line, run, collect}
+use Rattle.trunk.specs.Line.{accepted, putOut, acknowledged, events, stationSaid, Fair}
 use Rattle.trunk.specs.declared.Offer.the-variants.{Refused as offerRefused, Taken}
 use Rattle.trunk.specs.declared.Sent.the-variants.{Refused as sendRefused, Size}
 use Rattle.trunk.specs.declared.Reply.the-variants.{Refused as replyRefused, Acknowledged}
@@ -22,7 +20,19 @@ abbrev pub pduAt : List Entry → ℕ → List ℕ
 pduAt log i = getD (accepted log) i []
 
 abbrev pub recordAt : List Entry → ℕ → List ℕ
-recordAt log i = recordOf (headFor (kindOf (reading (pduAt log i))) i) (pduAt log i)
+recordAt log i = recordFor i (pduAt log i)
+
+-- the datagrams of the offers not refused, from number 0, as they were offered
+abbrev pub givenBy : Entry → List (List ℕ)
+givenBy (offer-made d (offerRefused n) store) = []
+givenBy (offer-made d (Taken i) store) = d ∷ []
+givenBy (send-made i a out) = []
+givenBy (reply-heard r a) = []
+givenBy (record-heard r a reply out) = []
+givenBy (clock-set t a) = []
+
+abbrev pub given : List Entry → List (List ℕ)
+given log = collect givenBy log
 
 -- k: "k counts them", the PDUs put out
 abbrev pub count : List Entry → ℕ
@@ -32,14 +42,15 @@ count log = length (putOut log)
 abbrev pub handover : Line → List ℕ → List ℕ → List Call
 handover l reply out =
     to-far (recordAt (l .log) (count (l .log))) reply out
-    ∷ to-near (take headSize (replyAfter (l .far) (recordAt (l .log) (count (l .log))) reply (length out)))
+    ∷ to-near (take 5 (replyAfter (l .far) (recordAt (l .log) (count (l .log))) reply (length out)))
     ∷ []
 
--- the numbers in an answer and in a written record are those of the log: an offer's number, a send's record and size, a reply's count, a
--- delivered PDU's size, and the count in each reply written
+-- the numbers in an answer and in a written record are those of the log: an offer's number and the record in its row, a send's record and
+-- size, a reply's count, a delivered PDU's size, and the count in each reply written, which is 32 and that count in 4 bytes
 abbrev pub Says : Entry → List Entry → Type 0
-Says (offer-made d (offerRefused n)) log = Unit {0}
-Says (offer-made d (Taken i)) log = i ≡ length (accepted log)
+Says (offer-made d (offerRefused n) store) log = Unit {0}
+Says (offer-made d (Taken i) store) log =
+    (i ≡ length (accepted log)) × (plainRow store i ≡ recordAt (offer-made d (Taken i) store ∷ log) i)
 Says (send-made i (sendRefused n) out) log = Unit {0}
 Says (send-made i (Size n) out) log =
     (i < length (accepted log)) × (take n out ≡ recordAt log i) × (n ≡ length (recordAt log i))
@@ -47,9 +58,9 @@ Says (reply-heard r (replyRefused n)) log = Unit {0}
 Says (reply-heard r (Acknowledged n)) log = n ≡ acknowledged (reply-heard r (Acknowledged n) ∷ log)
 Says (record-heard r (arrivalRefused n) reply out) log = Unit {0}
 Says (record-heard r (Delivered size answer) reply out) log =
-    (size ≡ length (pduAt log (count log))) × (take headSize reply ≡ replyOf (count log + 1))
-Says (record-heard r Repeat reply out) log = take headSize reply ≡ replyOf (count log)
-Says (record-heard r Early reply out) log = take headSize reply ≡ replyOf (count log)
+    (size ≡ length (pduAt log (count log))) × (take 5 reply ≡ replyWith (count log + 1))
+Says (record-heard r Repeat reply out) log = take 5 reply ≡ replyWith (count log)
+Says (record-heard r Early reply out) log = take 5 reply ≡ replyWith (count log)
 Says (clock-set t a) log = Unit {0}
 
 -- every entry says so of the log before it
@@ -61,6 +72,8 @@ AllSay (e ∷ log) = Says e log × AllSay log
 pub record Demand3 (station : Station) (l : Line) : Type 0 where
   -- "what the far end put out is the first k PDUs accepted, each once, in order"
   pub in-order : putOut (l .log) ≡ take (count (l .log)) (accepted (l .log))
+  -- and each is the datagram that was offered, with padding zero
+  pub padding-zero : putOut (l .log) ≡ take (count (l .log)) (map paddingZero (given (l .log)))
   -- "its station stands .. as a fresh one given those PDUs and clock calls": "fields .. and places .. are the same"
   pub station-stands : l .far .station ≡ after station (events (l .log))
   -- "and has answered as a fresh one": "answers .. are the same"

@@ -3,11 +3,14 @@
 use Prim.Native.Nat.{ℕ, _<_, max}
 use mathlib.Core.Path.{_≡_}
 use mathlib.Core.Logic.{_↔_, _≢_}
-use mathlib.Core.List.{List}
+use mathlib.Core.List.{List, [], _∷_}
 use lib.ListN.{length, drop}
 use Rattle.wire.specs.Bytes.{num}
 use Rattle.wire.specs.Rules.{Met, FirstBroken}
 use Rattle.station.specs.Hearing.{heard}
+use Rattle.trunk.specs.Record.{checkedSays, numberOfChecked, sizeOfChecked}
+use Rattle.trunk.specs.Near.{offerSays, sendSays, replySays}
+use Rattle.trunk.specs.Far.{arrivalSays}
 use Rattle.trunk.specs.Plain.{plainLength, plainRowKind, plainOffer, plainSend, plainReply, plainArrival, plainCheck}
 use Rattle.trunk.specs.declared.Checked.{Checked}
 use Rattle.trunk.specs.declared.Checked.the-variants.{Refused as checkRefused, Reply as aReply, Pdu}
@@ -61,3 +64,27 @@ pub record CheckExactly (r : List ℕ) (c : Checked) : Type 0 where
       (kind number size : ℕ)
       → (c ≡ Pdu kind number size)
       ↔ (Met (plainCheck r) × (num 1 0 r ≢ 32) × (kind ≡ num 1 0 r) × (number ≡ num 4 1 r) × (size ≡ length r))
+
+-- ---- what each case of each answer says in document 01's numbers, which the promises cite: a refusal its number alone, any other 0 and its values
+
+pub record AnswersSay : Type 0 where
+  pub offer-refused : (n : ℕ) → offerSays (offerRefused n) ≡ n ∷ []
+  pub offer-taken : (number : ℕ) → offerSays (Taken number) ≡ 0 ∷ number ∷ []
+  pub send-refused : (n : ℕ) → sendSays (sendRefused n) ≡ n ∷ []
+  pub send-size : (size : ℕ) → sendSays (Size size) ≡ 0 ∷ size ∷ []
+  pub reply-refused : (n : ℕ) → replySays (replyRefused n) ≡ n ∷ []
+  pub reply-acknowledged : (count : ℕ) → replySays (Acknowledged count) ≡ 0 ∷ count ∷ []
+  pub arrival-refused : (n : ℕ) → arrivalSays (arrivalRefused n) ≡ n ∷ []
+  pub arrival-delivered : (size answer : ℕ) → arrivalSays (Delivered size answer) ≡ 0 ∷ size ∷ answer ∷ []
+  pub arrival-repeat : arrivalSays Repeat ≡ 0 ∷ []
+  pub arrival-early : arrivalSays Early ≡ 0 ∷ []
+  pub check-refused : (n : ℕ) → checkedSays (checkRefused n) ≡ n ∷ []
+  pub check-reply : (number size : ℕ) → checkedSays (aReply number size) ≡ 0 ∷ 32 ∷ number ∷ size ∷ []
+  pub check-pdu : (kind number size : ℕ) → checkedSays (Pdu kind number size) ≡ 0 ∷ kind ∷ number ∷ size ∷ []
+  -- "A taken one has number 0 and the size of the .. record; a refused one has size 0"
+  pub number-refused : (n : ℕ) → numberOfChecked (checkRefused n) ≡ n
+  pub number-reply : (number size : ℕ) → numberOfChecked (aReply number size) ≡ 0
+  pub number-pdu : (kind number size : ℕ) → numberOfChecked (Pdu kind number size) ≡ 0
+  pub size-refused : (n : ℕ) → sizeOfChecked (checkRefused n) ≡ 0
+  pub size-reply : (number size : ℕ) → sizeOfChecked (aReply number size) ≡ size
+  pub size-pdu : (kind number size : ℕ) → sizeOfChecked (Pdu kind number size) ≡ size

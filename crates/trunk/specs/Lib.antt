@@ -7,6 +7,7 @@ pub mod Far
 pub mod Plain
 pub mod Exactly
 pub mod Line
+pub mod Leaves
 pub mod Demand
 pub mod Consequences
 pub mod Retries

@@ -3,13 +3,10 @@
 use Prim.Native.Nat.{ℕ, max}
 use mathlib.Core.List.{List, [], _∷_, _++_, List·Memᴰ}
 use lib.ListN.{length, take}
-use Rattle.wire.specs.Bytes.{Bytes}
-use Rattle.pdu.specs.Reading.{reading}
+use Rattle.wire.specs.Bytes.{num, Bytes}
 use Rattle.pdu.specs.Writing.{writtenForm}
 use Rattle.station.specs.Runs.{Call as StationCall, datagram, time}
-use Rattle.trunk.specs.Head.{headSize}
-use Rattle.trunk.specs.Kinds.{kindOf}
-use Rattle.trunk.specs.Record.{headFor, recordOf, numberIn}
+use Rattle.trunk.specs.Plain.{plainRow}
 use Rattle.trunk.specs.Near.{freshNear, offered, storeAfter, sent, sentOut, replied}
 use Rattle.trunk.specs.Far.{madeFar, arrived, replyAfter, outputAfter, ticked}
 use Rattle.trunk.specs.declared.Near.{Near}
@@ -36,9 +33,9 @@ pub data Call : Type 0 where
   -- the far end's clock
   tick : ℕ → Call
 
--- a call that was made: its arguments, its answer, and what it left in the buffers lent to it
+-- a call that was made: its arguments, its answer, and what it left in the store or the buffers lent to it
 pub data Entry : Type 0 where
-  offer-made : List ℕ → Offer → Entry
+  offer-made : List ℕ → Offer → List ℕ → Entry
   send-made : ℕ → Sent → List ℕ → Entry
   reply-heard : List ℕ → Reply → Entry
   record-heard : List ℕ → Arrival → List ℕ → List ℕ → Entry
@@ -55,6 +52,18 @@ pub record Line : Type 0 where
 abbrev pub start : ℕ → ℕ → List ℕ → Line
 start level net store = record { near = freshNear; store = store; far = madeFar level net .far; log = [] }
 
+-- the entry of a call
+abbrev pub entry : Line → Call → Entry
+entry l (offer d) = offer-made d (offered (l .near) (l .store) d .answer) (storeAfter (l .near) (l .store) d)
+entry l (send i out) = send-made i (sent (l .near) (l .store) i (length out) .answer) (sentOut (l .near) (l .store) i out)
+entry l (to-near r) = reply-heard r (replied (l .near) r .answer)
+entry l (to-far r reply out) =
+    record-heard r
+    (arrived (l .far) r (length reply) (length out) .answer)
+    (replyAfter (l .far) r reply (length out))
+    (outputAfter (l .far) r (length reply) out)
+entry l (tick t) = clock-set t (ticked (l .far) t .answer)
+
 -- one call
 abbrev pub step : Line → Call → Line
 step l (offer d) =
@@ -62,40 +71,35 @@ step l (offer d) =
       near = offered (l .near) (l .store) d .near;
       store = storeAfter (l .near) (l .store) d;
       far = l .far;
-      log = offer-made d (offered (l .near) (l .store) d .answer) ∷ l .log;
+      log = entry l (offer d) ∷ l .log;
     }
 step l (send i out) =
     record {
       near = sent (l .near) (l .store) i (length out) .near;
       store = l .store;
       far = l .far;
-      log = send-made i (sent (l .near) (l .store) i (length out) .answer) (sentOut (l .near) (l .store) i out) ∷ l .log;
+      log = entry l (send i out) ∷ l .log;
     }
 step l (to-near r) =
     record {
       near = replied (l .near) r .near;
       store = l .store;
       far = l .far;
-      log = reply-heard r (replied (l .near) r .answer) ∷ l .log;
+      log = entry l (to-near r) ∷ l .log;
     }
 step l (to-far r reply out) =
     record {
       near = l .near;
       store = l .store;
       far = arrived (l .far) r (length reply) (length out) .far;
-      log =
-          record-heard r
-          (arrived (l .far) r (length reply) (length out) .answer)
-          (replyAfter (l .far) r reply (length out))
-          (outputAfter (l .far) r (length reply) out)
-          ∷ l .log;
+      log = entry l (to-far r reply out) ∷ l .log;
     }
 step l (tick t) =
     record {
       near = l .near;
       store = l .store;
       far = ticked (l .far) t .far;
-      log = clock-set t (ticked (l .far) t .answer) ∷ l .log;
+      log = entry l (tick t) ∷ l .log;
     }
 
 -- a list of calls, first call first
@@ -110,8 +114,8 @@ collect f (e ∷ log) = collect f log ++ f e
 
 -- "Accepted are the PDUs of the offers not refused, from number 0, as the writer gives them"
 abbrev pub acceptedBy : Entry → List (List ℕ)
-acceptedBy (offer-made d (offerRefused n)) = []
-acceptedBy (offer-made d (Taken i)) = writtenForm d ∷ []
+acceptedBy (offer-made d (offerRefused n) store) = []
+acceptedBy (offer-made d (Taken i) store) = writtenForm d ∷ []
 acceptedBy (send-made i a out) = []
 acceptedBy (reply-heard r a) = []
 acceptedBy (record-heard r a reply out) = []
@@ -122,7 +126,7 @@ accepted log = collect acceptedBy log
 
 -- "Put out are the PDUs at the start of the output, by the size answered, of the arrivals answered delivered"
 abbrev pub putOutBy : Entry → List (List ℕ)
-putOutBy (offer-made d a) = []
+putOutBy (offer-made d a store) = []
 putOutBy (send-made i a out) = []
 putOutBy (reply-heard r a) = []
 putOutBy (record-heard r (arrivalRefused n) reply out) = []
@@ -134,17 +138,17 @@ putOutBy (clock-set t a) = []
 abbrev pub putOut : List Entry → List (List ℕ)
 putOut log = collect putOutBy log
 
--- the records that calls wrote: an offer's, into its row of the store; a send's, by the size answered; and an arrival's reply
+-- the records that calls wrote: an offer's, as its row of the store has it; a send's, by the size answered; and an arrival's reply, 5 bytes
 abbrev pub writtenBy : Entry → List (List ℕ)
-writtenBy (offer-made d (offerRefused n)) = []
-writtenBy (offer-made d (Taken i)) = recordOf (headFor (kindOf (reading d)) i) (writtenForm d) ∷ []
+writtenBy (offer-made d (offerRefused n) store) = []
+writtenBy (offer-made d (Taken i) store) = plainRow store i ∷ []
 writtenBy (send-made i (sendRefused n) out) = []
 writtenBy (send-made i (Size n) out) = take n out ∷ []
 writtenBy (reply-heard r a) = []
 writtenBy (record-heard r (arrivalRefused n) reply out) = []
-writtenBy (record-heard r (Delivered size answer) reply out) = take headSize reply ∷ []
-writtenBy (record-heard r Repeat reply out) = take headSize reply ∷ []
-writtenBy (record-heard r Early reply out) = take headSize reply ∷ []
+writtenBy (record-heard r (Delivered size answer) reply out) = take 5 reply ∷ []
+writtenBy (record-heard r Repeat reply out) = take 5 reply ∷ []
+writtenBy (record-heard r Early reply out) = take 5 reply ∷ []
 writtenBy (clock-set t a) = []
 
 abbrev pub written : List Entry → List (List ℕ)
@@ -153,16 +157,16 @@ written log = collect writtenBy log
 -- "Acknowledged is the largest number of a reply taken without refusal, first 0"
 abbrev pub acknowledged : List Entry → ℕ
 acknowledged [] = 0
-acknowledged (offer-made d a ∷ log) = acknowledged log
+acknowledged (offer-made d a store ∷ log) = acknowledged log
 acknowledged (send-made i a out ∷ log) = acknowledged log
 acknowledged (reply-heard r (replyRefused n) ∷ log) = acknowledged log
-acknowledged (reply-heard r (Acknowledged n) ∷ log) = max (acknowledged log) (numberIn r)
+acknowledged (reply-heard r (Acknowledged n) ∷ log) = max (acknowledged log) (num 4 1 r)
 acknowledged (record-heard r a reply out ∷ log) = acknowledged log
 acknowledged (clock-set t a ∷ log) = acknowledged log
 
 -- what the station was given, "on each PDU put out and each clock call in the list's order"
 abbrev pub eventsBy : Entry → List StationCall
-eventsBy (offer-made d a) = []
+eventsBy (offer-made d a store) = []
 eventsBy (send-made i a out) = []
 eventsBy (reply-heard r a) = []
 eventsBy (record-heard r (arrivalRefused n) reply out) = []
@@ -176,7 +180,7 @@ events log = collect eventsBy log
 
 -- what the station answered
 abbrev pub stationSaidBy : Entry → List ℕ
-stationSaidBy (offer-made d a) = []
+stationSaidBy (offer-made d a store) = []
 stationSaidBy (send-made i a out) = []
 stationSaidBy (reply-heard r a) = []
 stationSaidBy (record-heard r (arrivalRefused n) reply out) = []

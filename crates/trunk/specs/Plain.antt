@@ -1,21 +1,21 @@
 -- Document 01's rules for the trunk's calls, in its order, in plain numbers and at byte places, beside the tables and tests of Kinds, Record,
 -- Near and Far, with which they share no constant. `num w o r` is the number in the w bytes of r from byte o on: of a record, byte 0 is the
--- kind, bytes 1 to 4 are the number, and the PDU stands from byte 5 on.
-use Prim.Native.Nat.{ℕ, _+_, _*_, _%_, _≤_, _<_}
+-- kind, bytes 1 to 4 are the number, and the PDU stands from byte 5 on. `big 4 n` is the number n in 4 bytes.
+use Prim.Native.Nat.{ℕ, _+_, _-_, _*_, _/_, _%_, _≤_, _<_}
 use mathlib.Core.Path.{_≡_}
 use mathlib.Core.Logic.{_⊎_, _≢_}
 use mathlib.Core.Bool.{Bool, cond}
-use mathlib.Core.List.{List, [], _∷_}
-use lib.ListN.{length, getD, drop}
+use mathlib.Core.List.{List, [], _∷_, _++_}
+use lib.ListN.{length, getD, take, drop}
 use lib.Dec.{eqb}
-use Rattle.wire.specs.Bytes.{num}
+use Rattle.wire.specs.Bytes.{num, big}
 use Rattle.wire.specs.Rules.{Rule, _unless_}
 use Rattle.pdu.specs.Reading.{reading, refusal}
 use Rattle.pdu.specs.Writing.{writtenForm}
 use Rattle.pdu.specs.declared.Transmitter.{Transmitter as TransmitterFields}
 use Rattle.pdu.specs.declared.Signal.{Signal as SignalFields}
 use Rattle.pdu.specs.declared.Reading.{Reading}
-use Rattle.pdu.specs.declared.Reading.the-variants.{Transmitter as aTransmitter, Signal as aSignal}
+use Rattle.pdu.specs.declared.Reading.the-variants.{Refused, Transmitter as aTransmitter, Signal as aSignal}
 use Rattle.trunk.specs.declared.Load.{Load}
 use Rattle.trunk.specs.declared.Load.the-variants.{Words, Transmitter, Nothing, Unknown}
 use Rattle.trunk.specs.declared.Near.{Near}
@@ -47,6 +47,37 @@ plainLength kind = getD signalLengths kind (otherLength (eqb kind 16))
 pub data OfKind (kind : ℕ) : Reading → Type 0 where
   signal : (s : SignalFields) (n : ℕ) → s .network .«message_type» ≡ 0 → n ≡ 6 + 10 * kind → OfKind kind (aSignal s n)
   transmitter : (t : TransmitterFields) → kind ≡ 16 → OfKind kind (aTransmitter t)
+
+-- ---- records
+
+-- the kind under which a PDU is offered, by what was read: 16 for a Transmitter, n for a Signal of n words behind 6 header bytes, 10 bytes each
+-- (a refusal is not offered; 0 fills its place)
+abbrev pub plainKind : Reading → ℕ
+plainKind (Refused n) = 0
+plainKind (aTransmitter t) = 16
+plainKind (aSignal s n) = (n - 6) / 10
+
+-- "A record is one byte of kind, then .. a 4-byte number, then the PDU"
+abbrev pub recordWith : ℕ → ℕ → List ℕ → List ℕ
+recordWith kind number pdu = kind ∷ (big 4 number ++ pdu)
+
+-- "Kind 32: a reply, the number alone"
+abbrev pub replyWith : ℕ → List ℕ
+replyWith number = 32 ∷ big 4 number
+
+-- the record of a PDU under a number
+abbrev pub recordFor : ℕ → List ℕ → List ℕ
+recordFor number pdu = recordWith (plainKind (reading pdu)) number pdu
+
+-- ---- rows
+
+-- the kind byte of number i's row: "rows of 192 bytes", "row (number mod 8)"
+abbrev pub plainRowKind : List ℕ → ℕ → ℕ
+plainRowKind store i = num 1 (192 * (i % 8)) store
+
+-- "its record (the row's bytes as they stand, to the length of their kind)"
+abbrev pub plainRow : List ℕ → ℕ → List ℕ
+plainRow store i = take (plainLength (plainRowKind store i)) (drop (192 * (i % 8)) store)
 
 -- ---- rules
 
@@ -100,10 +131,6 @@ plainOffer near store d =
     ∷ (25 unless NumberRule (near .accepted))
     ∷ (24 unless WindowRule near)
     ∷ []
-
--- the kind byte of number i's row: "rows of 192 bytes", "row (number mod 8)"
-abbrev pub plainRowKind : List ℕ → ℕ → ℕ
-plainRowKind store i = num 1 (192 * (i % 8)) store
 
 -- Sending number i: 28, 26, 20, 29, 16
 abbrev pub plainSend : Near → List ℕ → ℕ → ℕ → List Rule

@@ -4,7 +4,7 @@ use mathlib.Core.Bool.{Bool, cond, not, _&&_}
 use mathlib.Core.List.{List, [], _∷_, _++_}
 use lib.ListN.{length, drop}
 use lib.Dec.{eqb, ltb}
-use Rattle.wire.specs.First.{Refusal, _given-when_, first}
+use Rattle.wire.specs.First.{Refusal, _given-when_, first, told}
 use Rattle.pdu.specs.Reading.{reading}
 use Rattle.pdu.specs.Writing.{inWrittenForm}
 use Rattle.trunk.specs.Head.{headSize, headAt, headBytes}
@@ -81,6 +81,16 @@ checked r =
     cond (eqb (first (checkRules r)) 0)
     (cond (isReply r) (Reply (numberIn r) (length r)) (Pdu (kindIn r) (numberIn r) (length r)))
     (Refused (first (checkRules r)))
+
+-- document 01's number and values of each answer: 0, and the record's kind, number and size
+abbrev pub checkedSays : Checked → List ℕ
+checkedSays (Refused n) = n ∷ []
+checkedSays (Reply number size) = 0 ∷ replyKind ∷ number ∷ size ∷ []
+checkedSays (Pdu kind number size) = 0 ∷ kind ∷ number ∷ size ∷ []
+
+-- what a check says in document 01's numbers: the refusal's alone, or 0 and the record's kind, number and size
+abbrev pub checkSays : List ℕ → List ℕ
+checkSays r = told (first (checkRules r)) (kindIn r ∷ numberIn r ∷ length r ∷ [])
 
 -- document 01's number and size for each answer of a check
 abbrev pub numberOfChecked : Checked → ℕ

@@ -7,7 +7,6 @@ use mathlib.Core.Bool.{cond}
 use mathlib.Core.List.{List, [], _∷_, _++_}
 use lib.ListN.{length, take}
 use lib.Dec.{ltb}
-use Rattle.trunk.specs.Head.{headSize}
 use Rattle.trunk.specs.Far.{replyAfter}
 use Rattle.trunk.specs.Line.{Call, send, to-near, to-far, Line, run, accepted, putOut, Fair}
 use Rattle.trunk.specs.Demand.{recordAt, count, handover}
@@ -42,7 +41,7 @@ abbrev pub round : Line → List ℕ → List ℕ → List ℕ → List Call
 round l buffer reply out =
     send (l .near .acknowledged) buffer
     ∷ to-far (recordAt (l .log) (l .near .acknowledged)) reply out
-    ∷ to-near (take headSize (replyAfter (l .far) (recordAt (l .log) (l .near .acknowledged)) reply (length out)))
+    ∷ to-near (take 5 (replyAfter (l .far) (recordAt (l .log) (l .near .acknowledged)) reply (length out)))
     ∷ []
 
 abbrev pub afterRound : Line → List ℕ → List ℕ → List ℕ → Line

@@ -5,7 +5,8 @@ ghost use lib.ListN.{length};
 ghost use Rattle.wire.specs.Bytes.{splice};
 ghost use Rattle.wire.specs.First.{first};
 ghost use Rattle.trunk.specs.Head.{headSize, headAt, headBytes};
-ghost use Rattle.trunk.specs.Record.{isReply, wrongCarried, formRules, pduRules, checkRules, checked, numberOfChecked, sizeOfChecked};
+ghost use Rattle.trunk.specs.Record.{isReply, wrongCarried, formRules, pduRules, checkRules, checked, checkedSays, checkSays};
+ghost use Rattle.trunk.specs.Record.{numberOfChecked, sizeOfChecked};
 ghost use Rattle.trunk.specs.Near.{replyRules};
 ghost use Rattle.trunk.specs.Far.{arrivalRules};
 use crate::Checked;
@@ -158,7 +159,8 @@ pub(crate) fn arrival_refusal(r: &[u8], reply_room: usize, room: usize) -> u8
 
 // Checks a record, as the lister and the host do.
 pub fn check(received: &[u8]) -> Checked
-    ensures { λ c. ⌜ c ≡ checked (now (received .entry)) ⌝ }
+    ensures answer { λ c. ⌜ c ≡ checked (now (received .entry)) ⌝ }
+    ensures says { λ c. ⌜ checkedSays c ≡ checkSays (now (received .entry)) ⌝ }
 {
     let n = check_refusal(received);
     if n != 0 {

@@ -31,8 +31,8 @@ add-result c = search needs
 returns : tie.Need-returns
 returns c =
     ap₂ packed
-    (c .before .number .ensures ∙ ap numberOfChecked (c .before .before .check .ensures))
-    (c .size .ensures ∙ ap sizeOfChecked (c .before .before .check .ensures))
+    (c .before .number .ensures ∙ ap numberOfChecked (c .before .before .check .ensures .0))
+    (c .size .ensures ∙ ap sizeOfChecked (c .before .before .check .ensures .0))
 
 pub altuvrin-record-spec : {M : Type 1} → statement M
 altuvrin-record-spec =

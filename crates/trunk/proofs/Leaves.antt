@@ -1,0 +1,149 @@
+-- What each call leaves (`offer-leaves`, `send-leaves`, `reply-leaves`, `arrive-leaves`, `tick-leaves`, `fresh`), in plain numbers, where all its
+-- plain rules hold. By the outcome of each call, and by what a record and a row are in plain numbers.
+-- Assumes nothing.
+use Prim.Native.Nat.{ℕ, _+_, _≤_, _<_}
+use mathlib.Core.Path.{_≡_, refl, sym, ap, ap₂, _∙_}
+use mathlib.Core.Logic.{_≢_}
+use mathlib.Core.List.{List, _++_}
+use lib.ListN.{length, take, drop}
+use lib.Seq.{sets-eq}
+use native.Mathlib.Omega.{arith}
+use borrow.Author.Tests.{eqb-false}
+use Rattle.wire.specs.Bytes.{num, Bytes}
+use Rattle.wire.specs.Rules.{Met}
+use Rattle.pdu.specs.Reading.{reading}
+use Rattle.pdu.specs.Writing.{writtenForm, paddingZero}
+use Rattle.pdu.proofs.RoundTrip.{written-form-back}
+use Rattle.trunk.specs.Kinds.{kindOf, noKind, recordSize, longestRecord}
+use Rattle.trunk.specs.Head.{headSize}
+use Rattle.trunk.specs.Record.{headFor, replyOf}
+use Rattle.trunk.specs.Near.{rowSize, storeSize, rowStart, rowKind, freshNear, offerRecord, offered, storeAfter, sent, sentOut, replied}
+use Rattle.trunk.specs.Far.{madeFar, arrived, replyAfter, outputAfter, ticked}
+use Rattle.trunk.specs.Plain.{plainKind, recordWith, replyWith, plainOffer, plainSend, plainReply, plainArrival}
+use Rattle.trunk.specs.Leaves.{overwritten, Fresh, OfferLeaves, SendLeaves, ReplyLeaves, ArriveLeaves, TickLeaves}
+use Rattle.trunk.specs.declared.Near.{Near}
+use Rattle.trunk.specs.declared.Far.{Far}
+use Rattle.trunk.specs.declared.Offered.{Offered}
+use Rattle.trunk.specs.declared.Sending.{Sending}
+use Rattle.trunk.specs.declared.Replied.{Replied}
+use Rattle.trunk.specs.declared.Arrived.{Arrived}
+use Rattle.trunk.proofs.KindLaws.{plain-length}
+use Rattle.trunk.proofs.RecordLaws.{carried-kind, type-says, plain-kind, record-plain, reply-plain}
+use Rattle.trunk.proofs.WriteLaws.{record-short}
+use Rattle.trunk.proofs.RuleLaws.{OfferMet, offer-verdict, offer-met, send-verdict, reply-verdict, arrival-verdict}
+use Rattle.trunk.proofs.CallLaws.{after-is-max, OfferOutcome, offer-refused, offer-taken, offer-outcome, SendOutcome, send-refused}
+use Rattle.trunk.proofs.CallLaws.{send-taken, send-outcome, ReplyOutcome, reply-refused, reply-taken, reply-outcome, ArrivalOutcome}
+use Rattle.trunk.proofs.CallLaws.{arrival-refused, arrival-delivered, arrival-repeat, arrival-early, arrival-outcome}
+use Rattle.trunk.proofs.ExactlyWhen.{clash}
+
+-- what the makers give
+pub fresh : (level net : ℕ) → Fresh freshNear level net (madeFar level net)
+fresh level net = record { accepted = refl; acknowledged = refl; count = refl; station = refl; answer = refl }
+
+-- ---- offering
+
+module _ (near : Near) (store d : List ℕ) (m : OfferMet near store d) where
+  carried : kindOf (reading d) ≢ noKind
+  carried = eqb-false _ _ (type-says d (m .taken) .1 (m .typed))
+
+  -- what an offer writes is kind, number, and the datagram with padding zero
+  plain-offer : offerRecord near d ≡ recordWith (plainKind (reading d)) (near .accepted) (paddingZero d)
+  plain-offer =
+      record-plain (kindOf (reading d)) (near .accepted) (writtenForm d) (carried-kind d carried .byte)
+      ∙ ap₂ (λ (k : ℕ) (p : List ℕ). recordWith k (near .accepted) p) (plain-kind d carried) (written-form-back d (m .taken))
+
+pub offer-leaves :
+    (near : Near) (store d : List ℕ)
+    → Met (plainOffer near store d)
+    → OfferLeaves near store d (offered near store d .near) (storeAfter near store d)
+offer-leaves near store d met = by (offer-outcome near store d)
+  where
+    m : OfferMet near store d
+    m = offer-met near store d met
+
+    short : length (offerRecord near d) ≤ longestRecord
+    short = record-short (headFor (kindOf (reading d)) (near .accepted)) d (carried near store d m)
+
+    by : {o : Offered} {s : List ℕ} → OfferOutcome near store d o s → OfferLeaves near store d (o .near) s
+    by (offer-refused n f) = absurd (clash (plainOffer near store d) (offer-verdict near store d) n f met)
+    by (offer-taken x) =
+        let whole : length store ≡ storeSize = m .whole in
+        record {
+          accepted = refl;
+          acknowledged = refl;
+          store-is =
+              sets-eq (offerRecord near d) store (rowStart (near .accepted)) (omega (arith, short))
+              ∙ ap (λ (r : List ℕ). overwritten (rowStart (near .accepted)) r store) (plain-offer near store d m);
+        }
+
+-- ---- sending
+
+pub send-leaves :
+    (near : Near) (store : List ℕ) (i : ℕ) (out : List ℕ)
+    → Met (plainSend near store i (length out))
+    → SendLeaves near store i out (sent near store i (length out) .near) (sentOut near store i out)
+send-leaves near store i out met = by (send-outcome near store i out)
+  where
+    by : {o : Sending} {s : List ℕ} → SendOutcome near store i out o s → SendLeaves near store i out (o .near) s
+    by (send-refused n f) = absurd (clash (plainSend near store i (length out)) (send-verdict near store i (length out)) n f met)
+    by (send-taken x) =
+        record {
+          near-same = refl;
+          output = ap (λ (n : ℕ). take n (drop (rowStart i) store) ++ drop n out) (plain-length (rowKind store i));
+        }
+
+-- ---- taking a reply
+
+pub reply-leaves : (near : Near) (r : List ℕ) → Met (plainReply near r) → ReplyLeaves near r (replied near r .near)
+reply-leaves near r met = by (reply-outcome near r)
+  where
+    by : {o : Replied} → ReplyOutcome near r o → ReplyLeaves near r (o .near)
+    by (reply-refused n f) = absurd (clash (plainReply near r) (reply-verdict near r) n f met)
+    by (reply-taken x) = record { accepted = refl; acknowledged = after-is-max (near .acknowledged) (num 4 1 r) }
+
+-- ---- a record at the far end
+
+pub arrive-leaves :
+    (far : Far) (r reply out : List ℕ)
+    → Bytes r
+    → Met (plainArrival r (length reply) (length out))
+    → ArriveLeaves far r reply out
+    (arrived far r (length reply) (length out) .far)
+    (replyAfter far r reply (length out))
+    (outputAfter far r (length reply) out)
+arrive-leaves far r reply out b met = by (arrival-outcome far r reply out b)
+  where
+    -- a reply, and what stood behind it
+    with-reply : (n : ℕ) → replyOf n ++ drop headSize reply ≡ replyWith n ++ drop 5 reply
+    with-reply n = ap (λ (a : List ℕ). a ++ drop 5 reply) (reply-plain n)
+
+    by : {o : Arrived} {s t : List ℕ} → ArrivalOutcome far r reply out o s t → ArriveLeaves far r reply out (o .far) s t
+    by (arrival-refused n f) =
+        absurd (clash (plainArrival r (length reply) (length out)) (arrival-verdict r b (length reply) (length out)) n f met)
+    by (arrival-delivered x same) =
+        record {
+          next = λ e.
+              record {
+                count = refl;
+                station = refl;
+                reply-is = with-reply (far .count + 1);
+                output = refl;
+              };
+          other = λ d. absurd (d same);
+        }
+    by (arrival-repeat x below) =
+        record {
+          next = λ e. absurd (omega (arith, below, e));
+          other = λ d. record { far-same = refl; reply-is = with-reply (far .count); output = refl };
+        }
+    by (arrival-early x above) =
+        record {
+          next = λ e. absurd (omega (arith, above, e));
+          other = λ d. record { far-same = refl; reply-is = with-reply (far .count); output = refl };
+        }
+
+-- ---- the clock
+
+pub tick-leaves : (far : Far) (t : ℕ) → TickLeaves far t (ticked far t)
+unfolding ticked
+tick-leaves far t = record { count = refl; station = refl; answer = refl }
