@@ -33,6 +33,7 @@ use Rattle.trunk.specs.declared.Replied.{Replied}
 use Rattle.trunk.specs.declared.Arrival.the-variants.{Refused as arrivalRefused, Repeat, Early}
 use Rattle.trunk.specs.declared.Arrived.{Arrived}
 use Rattle.trunk.proofs.RuleLaws.{offer-verdict, send-verdict, reply-verdict, arrival-verdict}
+use Rattle.trunk.proofs.Refused.{reply-kept, output-kept}
 
 -- ---- offering
 
@@ -194,7 +195,9 @@ arrival-outcome far r reply out b = by (eqb (first (arrivalRules r (length reply
 
     by : (b : Bool) → eqb (first (arrivalRules r (length reply) (length out))) 0 ≡ b → Outcome
     by true e = placed-by (isNext (far .count) (numberIn r)) (ltb (numberIn r) (far .count)) refl refl e
-    by false e = rw e (arrival-refused _ (v .some _ .0 (refl, eqb-false _ _ e)))
+    by false e =
+        rw (output-kept far r (length reply) out e, reply-kept far r reply (length out) e, e)
+        (arrival-refused _ (v .some _ .0 (refl, eqb-false _ _ e)))
 
 -- ---- calls that break no rule
 

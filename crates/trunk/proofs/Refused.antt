@@ -3,18 +3,19 @@
 -- Assumes nothing.
 use Prim.Native.Nat.{ℕ}
 use mathlib.Core.Path.{_≡_, refl, ap, ap₂}
-use mathlib.Core.Bool.{Bool, true, false}
-use mathlib.Core.List.{List, [], _∷_}
-use lib.ListN.{length}
+use mathlib.Core.Bool.{Bool, true, false, cond}
+use mathlib.Core.List.{List, [], _∷_, _++_}
+use lib.ListN.{length, drop}
 use lib.Dec.{eqb, ltb}
 use native.Mathlib.Omega.{arith}
 use Rattle.wire.specs.First.{first}
 use Rattle.station.specs.Units.{clockOf}
 use Rattle.station.specs.Clock.{clocked}
 use Rattle.station.specs.declared.Station.{Station}
-use Rattle.trunk.specs.Record.{numberIn}
+use Rattle.trunk.specs.Head.{headSize}
+use Rattle.trunk.specs.Record.{replyOf, numberIn, carriedIn}
 use Rattle.trunk.specs.Near.{offerRules, offered, storeAfter, sendRules, sent, sentOut, replyRules, replied}
-use Rattle.trunk.specs.Far.{arrivalRules, isNext, arrived, replyAfter, outputAfter, ticked}
+use Rattle.trunk.specs.Far.{arrivalRules, isNext, countAfter, arrived, replyAfter, outputAfter, ticked}
 use Rattle.trunk.specs.Line.{offer-made, send-made, reply-heard, record-heard, Call, offer, send, to-near, to-far, tick, Line, entry}
 use Rattle.trunk.specs.Leaves.{Refused, ChangesNothing}
 use Rattle.trunk.specs.declared.Near.{Near}
@@ -88,19 +89,21 @@ far-kept :
 unfolding arrived
 far-kept far r replyRoom room e = rw e
 
-reply-kept :
+pub reply-kept :
     (far : Far) (r reply : List ℕ) (room : ℕ)
     → eqb (first (arrivalRules r (length reply) room)) 0 ≡ false
     → replyAfter far r reply room ≡ reply
 unfolding replyAfter
-reply-kept far r reply room e = rw e
+reply-kept far r reply room e =
+    ap (λ (b : Bool). cond b (replyOf (countAfter (far .count) (numberIn r)) ++ drop headSize reply) reply) e
 
-output-kept :
+pub output-kept :
     (far : Far) (r : List ℕ) (replyRoom : ℕ) (out : List ℕ)
     → eqb (first (arrivalRules r replyRoom (length out))) 0 ≡ false
     → outputAfter far r replyRoom out ≡ out
 unfolding outputAfter
-output-kept far r replyRoom out e = rw e
+output-kept far r replyRoom out e =
+    ap (λ (b : Bool). cond b (cond (isNext (far .count) (numberIn r)) (carriedIn r ++ drop (length (carriedIn r)) out) out) out) e
 
 station-kept : (s : Station) (t : ℕ) → clocked s t .answer ≡ 36 → clocked s t .station ≡ s
 unfolding clocked

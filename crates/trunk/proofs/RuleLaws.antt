@@ -139,6 +139,20 @@ reply-verdict near r =
     then λ reply. not-below _ _
     then λ few. done)
 
+-- 25 and 22 of a check, where the record is no reply
+pdu-says : (r : List ℕ) → (not (isReply r) ≡ true) ↔ ¬ ReplyKind (num 1 0 r)
+pdu-says r = (λ e. is-pdu-says r .0 (not-true _ e), λ h. ap not (is-pdu-says r .1 h))
+
+pub check-verdict : (r : List ℕ) → Bytes r → Verdict (checkRules r) (plainCheck r)
+unfolding formRules pduRules lastOfAll wrongCarried
+check-verdict r b =
+    verdict
+    (kind-says r
+    then λ kind. length-says r
+    then λ size. if-so _ _ (pdu-says r) (differs _ _)
+    then λ last. if-so _ _ (pdu-says r) (carried-says (carriedIn r) (num 1 0 r) (bytes-drop headSize r b) (omega (arith, b 0)))
+    then λ carried. done)
+
 pub arrival-verdict :
     (r : List ℕ)
     → Bytes r
@@ -194,17 +208,3 @@ arrival-passes r replyRoom room s h k =
 pub reply-passes : (near : Near) (r : List ℕ) (n : ℕ) → SoundReply r n → n ≤ near .accepted → first (replyRules near r) ≡ 0
 unfolding replyRules formRules
 reply-passes near r n s h = rw (s .known, s .sized, s .reply, s .number-is, le-ltb (near .accepted) n h)
-
--- 25 and 22 of a check, where the record is no reply
-pdu-says : (r : List ℕ) → (not (isReply r) ≡ true) ↔ ¬ ReplyKind (num 1 0 r)
-pdu-says r = (λ e. is-pdu-says r .0 (not-true _ e), λ h. ap not (is-pdu-says r .1 h))
-
-pub check-verdict : (r : List ℕ) → Bytes r → Verdict (checkRules r) (plainCheck r)
-unfolding formRules pduRules lastOfAll wrongCarried
-check-verdict r b =
-    verdict
-    (kind-says r
-    then λ kind. length-says r
-    then λ size. if-so _ _ (pdu-says r) (differs _ _)
-    then λ last. if-so _ _ (pdu-says r) (carried-says (carriedIn r) (num 1 0 r) (bytes-drop headSize r b) (omega (arith, b 0)))
-    then λ carried. done)
