@@ -16,7 +16,6 @@ use Rattle.station.specs.Units.{made}
 use Rattle.station.specs.declared.Station.{Station}
 use Rattle.trunk.specs.Head.{headSize}
 use Rattle.trunk.specs.Kinds.{longestPdu}
-use Rattle.trunk.specs.Near.{rows}
 use Rattle.trunk.specs.Line.{Entry, offer-made, send-made, reply-heard, record-heard, clock-set, Call, Line, start, step, run, accepted}
 use Rattle.trunk.specs.Line.{putOut, putOutBy, Fair}
 use Rattle.trunk.specs.Demand.{count, handover, Demand3}
@@ -117,13 +116,13 @@ pub alternating-delivers :
     (level net : ℕ) (store : List ℕ) (calls : List Call)
     → Fair (start level net store) calls
     → (reply out : List ℕ)
-    → headSize ≤ length reply
-    → longestPdu ≤ length out
-    → Delivers (run (start level net store) calls) (alternating rows (run (start level net store) calls) reply out)
+    → 5 ≤ length reply
+    → 180 ≤ length out
+    → Delivers (run (start level net store) calls) (alternating 8 (run (start level net store) calls) reply out)
 unfolding Always
 alternating-delivers level net store calls fair reply out fits room =
     let station : Station = made level net .station in
     let d = demand3 level net store calls fair in
-    delivers station reply out fits room rows (run (start level net store) calls)
+    delivers station reply out fits room _ (run (start level net store) calls)
     (always-after station (start level net store) calls fair (demand3 level net store))
     (omega (arith, d .window, d .acknowledged-put-out))

@@ -5,15 +5,15 @@ use Prim.Native.Nat.{ℕ}
 use mathlib.Core.Path.{_≡_, refl, ap, ap₂, subst, _∙_}
 use mathlib.Core.Logic.{_⊎_, inl, inr}
 use mathlib.Core.List.{List, [], _∷_, _++_, List·Memᴰ, List·Memᴰ·head, List·Memᴰ·tail, List·Memᴰ·not-nil, List·Memᴰ·append-cases}
-use mathlib.Core.List.{List·Memᴰ·cases-cons, List·Memᴰ·eq-of-singleton, Memᴰ·append-left}
+use mathlib.Core.List.{List·Memᴰ·cases-cons, List·Memᴰ·eq-of-singleton, Memᴰ·append-left, map, map-append}
 use lib.ListN.{getD, take, drop, take-append-drop}
 use lib.Seq.{getD-take}
 use native.Mathlib.Omega.{arith}
-use Rattle.pdu.specs.Writing.{writtenForm}
+use Rattle.pdu.specs.Writing.{paddingZero}
 use Rattle.station.specs.Runs.{Call as StationCall, datagram, time}
 use Rattle.trunk.specs.Line.{Entry, offer-made, send-made, reply-heard, record-heard, clock-set, Call, offer, send, to-near, to-far, tick}
-use Rattle.trunk.specs.Line.{Line, start, step, run, accepted, acceptedBy, putOut, putOutBy, events, eventsBy, Fair}
-use Rattle.trunk.specs.Demand.{count}
+use Rattle.trunk.specs.Line.{Line, start, step, run, accepted, putOut, putOutBy, events, eventsBy, Fair}
+use Rattle.trunk.specs.Demand.{given, givenBy, count}
 use Rattle.trunk.specs.Consequences.{datagrams, WasOffered, Consequences}
 use Rattle.trunk.specs.declared.Offer.{Offer}
 use Rattle.trunk.specs.declared.Offer.the-variants.{Refused as offerRefused, Taken}
@@ -44,11 +44,11 @@ all-heard (e ∷ log) = datagrams-append (events log) (eventsBy e) ∙ ap₂ _++
 
 -- ---- nothing but what was offered
 
--- what was accepted came from an entry
+-- what was offered and not refused came from an entry
 Came : List ℕ → List Entry → Type 0
-Came p log = (d : List ℕ) × (i : ℕ) × (store : List ℕ) × List·Memᴰ (offer-made d (Taken i) store) log × (p ≡ writtenForm d)
+Came p log = (d : List ℕ) × (i : ℕ) × (store : List ℕ) × List·Memᴰ (offer-made d (Taken i) store) log × (p ≡ paddingZero d)
 
-here : (p : List ℕ) (log : List Entry) (e : Entry) → List·Memᴰ p (acceptedBy e) → Came p (e ∷ log)
+here : (p : List ℕ) (log : List Entry) (e : Entry) → List·Memᴰ p (map paddingZero (givenBy e)) → Came p (e ∷ log)
 unfolding Came
 here p log (offer-made d (offerRefused n) store) m = absurd (List·Memᴰ·not-nil m)
 here p log (offer-made d (Taken i) store) m = (d, i, store, List·Memᴰ·head refl, List·Memᴰ·eq-of-singleton m)
@@ -61,9 +61,11 @@ before : (p : List ℕ) (log : List Entry) (e : Entry) → Came p log → Came p
 unfolding Came
 before p log e c = (c .0, c .1, c .2, List·Memᴰ·tail (c .3), c .4)
 
-came : (p : List ℕ) (log : List Entry) → List·Memᴰ p (accepted log) → Came p log
+came : (p : List ℕ) (log : List Entry) → List·Memᴰ p (map paddingZero (given log)) → Came p log
 came p [] m = absurd (List·Memᴰ·not-nil m)
-came p (e ∷ log) m = elim (List·Memᴰ·append-cases (accepted log) m) [ inl old ↦ before p log e (came p log old) | inr new ↦ here p log e new ]
+came p (e ∷ log) m =
+    elim (List·Memᴰ·append-cases (map paddingZero (given log)) (subst (List·Memᴰ p) (map-append paddingZero (given log) (givenBy e)) m))
+    [ inl old ↦ before p log e (came p log old) | inr new ↦ here p log e new ]
 
 -- an entry of an offer came from a call of the list, or stood in the log before
 InList : List ℕ → Offer → List ℕ → Line → List Call → Type 0
@@ -110,7 +112,7 @@ in-list d a store l [] m = inl m
 in-list d a store l (c ∷ cs) m =
     elim (in-list d a store (step l c) cs m) [ inl here ↦ by-call d a store l c cs here | inr later ↦ inr (List·Memᴰ·tail later) ]
 
--- in a part of the accepted PDUs, so among them
+-- in a part of some PDUs, so among them
 in-part : (p : List ℕ) (n : ℕ) (l : List (List ℕ)) → List·Memᴰ p (take n l) → List·Memᴰ p l
 in-part p n l m = subst (List·Memᴰ p) (take-append-drop n l) (Memᴰ·append-left (drop n l) m)
 
@@ -118,7 +120,7 @@ in-part p n l m = subst (List·Memᴰ p) (take-append-drop n l) (Memᴰ·append-
 
 offered-before :
     (level net : ℕ) (store : List ℕ) (calls : List Call) (p : List ℕ)
-    → List·Memᴰ p (accepted (run (start level net store) calls .log))
+    → List·Memᴰ p (map paddingZero (given (run (start level net store) calls .log)))
     → WasOffered p calls (run (start level net store) calls .log)
 unfolding Came InList
 offered-before level net store calls p m =
@@ -148,5 +150,5 @@ consequences level net store calls fair =
           ∙ getD-take (count (l .log)) all i [] (omega (arith, d .near-acknowledged, d .acknowledged-put-out));
       only-offered = λ p m.
           offered-before level net store calls p
-          (in-part p (count (l .log)) all (subst (List·Memᴰ p) (d .in-order) m));
+          (in-part p (count (l .log)) (map paddingZero (given (l .log))) (subst (List·Memᴰ p) (d .padding-zero) m));
     }

@@ -14,7 +14,7 @@ use borrow.Author.Tests.{ltb-true, ltb-false}
 use Rattle.station.specs.declared.Station.{Station}
 use Rattle.trunk.specs.Head.{headSize}
 use Rattle.trunk.specs.Kinds.{longestPdu}
-use Rattle.trunk.specs.Near.{rows, rowSize, sent, sentOut, replied}
+use Rattle.trunk.specs.Near.{rowSize, sent, sentOut, replied}
 use Rattle.trunk.specs.Line.{send-made, Call, send, Line, start, step, run, accepted, acknowledged, written}
 use Rattle.trunk.specs.Line.{writtenBy, Fair}
 use Rattle.trunk.specs.Demand.{count}
@@ -122,12 +122,12 @@ pub retries :
     (level net : ℕ) (store : List ℕ) (calls : List Call)
     → Fair (start level net store) calls
     → (buffer reply out : List ℕ)
-    → rowSize ≤ length buffer
-    → headSize ≤ length reply
-    → longestPdu ≤ length out
-    → Through (run (start level net store) calls) (rounds rows (run (start level net store) calls) buffer reply out)
+    → 192 ≤ length buffer
+    → 5 ≤ length reply
+    → 180 ≤ length out
+    → Through (run (start level net store) calls) (rounds 8 (run (start level net store) calls) buffer reply out)
 retries level net store calls fair buffer reply out long fits room =
     let s = run-stands (start level net store) calls fair (start-stands level net store) in
     let c = s .holds .counts in
-    through buffer reply out long fits room rows (run (start level net store) calls) s
+    through buffer reply out long fits room _ (run (start level net store) calls) s
     (omega (arith, c .near-accepted, c .near-acknowledged, c .window))
