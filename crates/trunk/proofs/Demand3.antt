@@ -17,11 +17,11 @@ use Rattle.station.specs.declared.Station.{Station}
 use Rattle.trunk.specs.Head.{headSize}
 use Rattle.trunk.specs.Kinds.{recordSize}
 use Rattle.trunk.specs.Record.{replyOf, numberIn, carriedIn}
-use Rattle.trunk.specs.Near.{rowKind, offerRecord, replied}
+use Rattle.trunk.specs.Near.{rowKind, replied}
 use Rattle.trunk.specs.Far.{ticked}
 use Rattle.trunk.specs.Line.{Entry, offer-made, send-made, reply-heard, record-heard, clock-set, Call, offer, send, to-near, to-far, tick}
 use Rattle.trunk.specs.Line.{Line, start, step, run, accepted, acceptedBy, acknowledged, written, Allowed, Fair}
-use Rattle.trunk.specs.Demand.{pduAt, recordAt, given, givenBy, count, Says, AllSay, Demand3}
+use Rattle.trunk.specs.Demand.{pduAt, given, givenBy, count, Says, AllSay, Demand3}
 use Rattle.trunk.specs.declared.Near.{Near}
 use Rattle.trunk.specs.declared.Far.{Far}
 use Rattle.trunk.specs.declared.Offered.{Offered}

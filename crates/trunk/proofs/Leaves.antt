@@ -1,8 +1,8 @@
 -- What each call leaves (`offer-leaves`, `send-leaves`, `reply-leaves`, `arrive-leaves`, `tick-leaves`, `fresh`), in plain numbers, where all its
 -- plain rules hold. By the outcome of each call, and by what a record and a row are in plain numbers.
 -- Assumes nothing.
-use Prim.Native.Nat.{ℕ, _+_, _≤_, _<_}
-use mathlib.Core.Path.{_≡_, refl, sym, ap, ap₂, _∙_}
+use Prim.Native.Nat.{ℕ, _+_, _≤_}
+use mathlib.Core.Path.{_≡_, refl, ap, ap₂, _∙_}
 use mathlib.Core.Logic.{_≢_}
 use mathlib.Core.List.{List, _++_}
 use lib.ListN.{length, take, drop}
@@ -14,10 +14,10 @@ use Rattle.wire.specs.Rules.{Met}
 use Rattle.pdu.specs.Reading.{reading}
 use Rattle.pdu.specs.Writing.{writtenForm, paddingZero}
 use Rattle.pdu.proofs.RoundTrip.{written-form-back}
-use Rattle.trunk.specs.Kinds.{kindOf, noKind, recordSize, longestRecord}
+use Rattle.trunk.specs.Kinds.{kindOf, noKind, longestRecord}
 use Rattle.trunk.specs.Head.{headSize}
 use Rattle.trunk.specs.Record.{headFor, replyOf}
-use Rattle.trunk.specs.Near.{rowSize, storeSize, rowStart, rowKind, freshNear, offerRecord, offered, storeAfter, sent, sentOut, replied}
+use Rattle.trunk.specs.Near.{storeSize, rowStart, rowKind, freshNear, offerRecord, offered, storeAfter, sent, sentOut, replied}
 use Rattle.trunk.specs.Far.{madeFar, arrived, replyAfter, outputAfter, ticked}
 use Rattle.trunk.specs.Plain.{plainKind, recordWith, replyWith, plainOffer, plainSend, plainReply, plainArrival}
 use Rattle.trunk.specs.Leaves.{overwritten, Fresh, OfferLeaves, SendLeaves, ReplyLeaves, ArriveLeaves, TickLeaves}

@@ -6,14 +6,14 @@ use Prim.Native.Nat.{ℕ, _+_, _%_, _≤_, _<_}
 use mathlib.Core.Path.{_≡_, refl, sym, ap, subst, _∙_}
 use mathlib.Core.Logic.{_↔_, _≢_, Iff·trans}
 use mathlib.Core.Bool.{Bool, true, false, cond, not, _&&_, and-false}
-use mathlib.Core.List.{List, [], _∷_, _++_}
+use mathlib.Core.List.{List, [], _++_}
 use lib.ListN.{length, take, length-append}
 use lib.Seq.{take-at, drop-at}
 use lib.Dec.{eqb}
 use native.Mathlib.Nat.{zero-add}
 use native.Mathlib.Omega.{arith}
 use borrow.Author.Tests.{eqb-true, eqb-false, eq-eqb, ne-eqb}
-use Rattle.wire.specs.Bytes.{big, Bytes}
+use Rattle.wire.specs.Bytes.{Bytes}
 use Rattle.wire.specs.Table.{Fit}
 use Rattle.wire.proofs.TableLaws.{read-fill, length-fill}
 use Rattle.wire.proofs.FitLaws.{bytes-append, bytes-fill}
