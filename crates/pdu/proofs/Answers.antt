@@ -16,7 +16,7 @@ use Rattle.pdu.specs.Numbers
 use Rattle.pdu.specs.Forms.{sizeOf}
 use Rattle.pdu.specs.Reading.{transmitterOf, signalOf, bodySize, saysTransmitter, content, refusal, reading, numberOf}
 use Rattle.pdu.specs.Reading.{valuesHeld, readingSays, readSays}
-use Rattle.pdu.specs.Writing.{writingRules, writingRefusal, written}
+use Rattle.pdu.specs.Writing.{writingRules, writingRefusal, written, writtenSays, writingSays}
 use Rattle.pdu.specs.Plain.{plainTransmitter, plainSignal, plainTransmitterWriting, plainSignalWriting, TakenExactly, WrittenExactly}
 use Rattle.pdu.specs.declared.Transmitter.{Transmitter}
 use Rattle.pdu.specs.declared.Signal.{Signal}
@@ -210,3 +210,11 @@ transmitter-written-exactly t room = by-verdict (aTransmitter t) room _ (transmi
 
 pub signal-written-exactly : (s : Signal) (n room : ℕ) → WrittenExactly (aSignal s n) (plainSignalWriting s n room) room
 signal-written-exactly s n room = by-verdict (aSignal s n) room _ (signal-writing s n room)
+
+-- and what the answer says is the refusal's number, or 0 and the size
+pub writing-says : (r : Reading) (room : ℕ) → writtenSays (written r room) ≡ writingSays r room
+writing-says r room = by (eqb (writingRefusal r room) 0) refl
+  where
+    by : (b : Bool) → eqb (writingRefusal r room) 0 ≡ b → writtenSays (written r room) ≡ writingSays r room
+    by true t = rw t refl
+    by false t = rw t refl

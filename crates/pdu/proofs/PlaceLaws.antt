@@ -84,7 +84,8 @@ signal-padding d b e type =
     let n : ℕ = bodySize d in
     let message : ℕ = signalOf d .network .«message_type» in
     let h = read-taken d (aSignal (signalOf d) n) tt reads in
-    let fits = both-true _ _ (sym (sound-append (signalHead n) (bodyTable message n)) ∙ sound-form (aSignal (signalOf d) n) (h .rules)) in
+    let fits : (sound (signalHead n) ≡ true) × (sound (bodyTable message n) ≡ true) =
+    both-true _ _ (sym (sound-append (signalHead n) (bodyTable message n)) ∙ sound-form (aSignal (signalOf d) n) (h .rules)) in
     let fields = signal-fields d (signalOf d) n reads in
     let inside : 52 + n ≤ length d = omega (arith, h .size) in
     let counted : n ≡ dataEnd d - 52 = omega (arith, fields .body-size) in

@@ -1,16 +1,22 @@
 -- Format, label and sublabel lie in the last two of a word's ten bytes: the low ten bits of an 80-bit number are those of its low sixteen.
 -- Assumes nothing.
 use Prim.Native.Nat.{ℕ, _+_, _*_, _/_, _%_}
-use mathlib.Core.Path.{_≡_, sym, ap, _∙_}
+use mathlib.Core.Path.{_≡_, refl, sym, ap, _∙_}
+use mathlib.Core.Bool.{true}
 use mathlib.Core.List.{List}
 use native.Mathlib.Nat.{div-one}
 use native.Mathlib.Omega.{arith}
 use Rattle.wire.specs.Bytes.{num}
-use Rattle.wire.specs.Table.{read}
+use Rattle.wire.specs.Table.{width, read, sound}
 use Rattle.wire.proofs.ByteLaws.{num-split}
+use Rattle.pdu.specs.Numbers.{wordBytes}
 use Rattle.pdu.specs.Tables.{wordTable}
 use Rattle.pdu.specs.Words.{wordFrom}
 use Rattle.pdu.specs.declared.Word.the-variants.{Here}
+
+-- a word's parts fill its ten bytes
+pub word-sound : (sound wordTable ≡ true) × (width wordTable ≡ wordBytes)
+word-sound = (refl, refl)
 
 -- a number alone in its place
 pub plain : (x : ℕ) → x * 1 + 0 ≡ x
