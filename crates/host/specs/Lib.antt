@@ -1,2 +1,3 @@
 -- How an answer travels to C: one 64-bit number.
 pub mod Answer
+pub mod Plain

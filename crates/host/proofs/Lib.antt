@@ -1,0 +1,2 @@
+-- The law of the host that belongs to no one function.
+pub mod Unpack
