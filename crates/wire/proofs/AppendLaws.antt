@@ -85,6 +85,13 @@ read-part (s ∷ t) i n o d h =
     (num-part (wide s) i n o d (omega arith))
     (read-part t (i + wide s) n o d (omega arith) ∙ ap (λ (k : ℕ). read k t d) (sym (add-assoc o i (wide s))))
 
+pub clear-part : (t : List Slot) (i n o : ℕ) (d : List ℕ) → i + width t ≤ n → clear i t (take n (drop o d)) ≡ clear (o + i) t d
+clear-part [] i n o d h = refl
+clear-part (s ∷ t) i n o d h =
+    ap₂ (λ (v : ℕ) (l : List ℕ). big (wide s) (tidy s v) ++ l)
+    (num-part (wide s) i n o d (omega arith))
+    (clear-part t (i + wide s) n o d (omega arith) ∙ ap (λ (k : ℕ). clear k t d) (sym (add-assoc o i (wide s))))
+
 -- values that were put together for the two
 pub fill-append : (t u : List Slot) (xs ys : List ℕ) → length xs ≡ counts t → fill (t ++ u) (xs ++ ys) ≡ fill t xs ++ fill u ys
 fill-append [] u [] ys h = refl

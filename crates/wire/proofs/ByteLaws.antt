@@ -2,7 +2,7 @@
 -- and two splices side by side are one. Each goes by induction on the width or on the first piece.
 -- Assumes nothing.
 use Prim.Native.Nat.{ℕ, zero, suc, _+_, _*_, _/_, _%_, _^_, _≤_, _<_}
-use mathlib.Core.Path.{_≡_, refl, sym, ap, ap₂, _∙_}
+use mathlib.Core.Path.{_≡_, refl, sym, ap, ap₂, subst, _∙_}
 use mathlib.Core.Bool.{Bool, true, false, _&&_}
 use mathlib.Core.List.{List, [], _∷_, _++_, append-assoc, append-nil}
 use lib.ListN.{length, getD, take, drop, set, replicate, length-append, length-drop}
@@ -73,25 +73,30 @@ num-big (suc w) v q =
     pow-lt-pos zero = omega arith
     pow-lt-pos (suc k) = rw (pow-suc 256 k) (omega (arith, pow-lt-pos k))
 
--- a number's last byte is that of what stands below 256 of something
-byte-of : (h x : ℕ) → (h * 256 + x) % 256 ≡ x % 256
-byte-of h x = omega arith
+-- a number's last byte, and what stands above it, where it is put together from high digits h and a rest l
+last-byte : (b h l : ℕ) → (h * 256 ^ suc b + l) % 256 ≡ l % 256
+last-byte b h l = rw (pow-suc 256 b) (omega arith)
 
--- a number's eight bytes are the four of its high half and the four of its low half: each quotient by 256 is taken of both halves
+above-byte : (b h l : ℕ) → (h * 256 ^ suc b + l) / 256 ≡ h * 256 ^ b + l / 256
+above-byte b h l = rw (pow-suc 256 b) (omega arith)
+
+-- its bytes are those of h and those of l
+pub big-append : (a b h l : ℕ) → l < 256 ^ b → big (a + b) (h * 256 ^ b + l) ≡ big a h ++ big b l
+big-append a zero h l low =
+    let same : h * 256 ^ 0 + l ≡ h = omega arith in
+    ap₂ big (add-zero a) same ∙ sym (append-nil (big a h))
+big-append a (suc b) h l low =
+    let small : l / 256 < 256 ^ b = omega (arith, subst (λ (n : ℕ). l < n) (pow-suc 256 b) low) in
+    ap (λ (w : ℕ). big w (h * 256 ^ suc b + l)) (add-suc a b)
+    ∙ ap₂ (λ (v x : ℕ). big (a + b) v ++ (x ∷ [])) (above-byte b h l) (last-byte b h l)
+    ∙ ap (λ (m : List ℕ). m ++ (l % 256 ∷ [])) (big-append a b h (l / 256) small)
+    ∙ append-assoc (big a h) (big b (l / 256)) (l % 256 ∷ [])
+
+-- a number's eight bytes are the four of its high half and the four of its low half
 pub big-halves : (v : ℕ) → big 8 v ≡ big 4 (v / 4294967296) ++ big 4 (v % 4294967296)
 big-halves v =
-    let h : ℕ = v / 4294967296 in
-    let l : ℕ = v % 4294967296 in
-    let one : v / 256 ≡ h * 65536 * 256 + l / 256 = omega arith in
-    let two : v / 256 / 256 ≡ h * 256 * 256 + l / 256 / 256 = omega arith in
-    let three : v / 256 / 256 / 256 ≡ h * 256 + l / 256 / 256 / 256 = omega arith in
-    let four : v / 256 / 256 / 256 / 256 ≡ h = omega arith in
-    let low : v % 256 ≡ l % 256 = omega arith in
-    let next : v / 256 % 256 ≡ l / 256 % 256 = ap (λ (n : ℕ). n % 256) one ∙ byte-of (h * 65536) (l / 256) in
-    let third : v / 256 / 256 % 256 ≡ l / 256 / 256 % 256 = ap (λ (n : ℕ). n % 256) two ∙ byte-of (h * 256) (l / 256 / 256) in
-    let fourth : v / 256 / 256 / 256 % 256 ≡ l / 256 / 256 / 256 % 256 = ap (λ (n : ℕ). n % 256) three ∙ byte-of h (l / 256 / 256 / 256) in
-    ap (λ (n : ℕ). big 4 n ++ (v / 256 / 256 / 256 % 256 ∷ v / 256 / 256 % 256 ∷ v / 256 % 256 ∷ v % 256 ∷ [])) four
-    ∙ (λ i. big 4 h ++ (fourth i ∷ third i ∷ next i ∷ low i ∷ []))
+    let same : v ≡ v / 4294967296 * 256 ^ 4 + v % 4294967296 = omega arith in
+    ap (big 8) same ∙ big-append 4 4 (v / 4294967296) (v % 4294967296) (omega arith)
 
 -- the bytes of zero
 pub big-zero : (w : ℕ) → big w 0 ≡ replicate w 0
