@@ -60,16 +60,19 @@ enum altuvrin_answer {
     /* NPG above 511, net above 127, TSEC or MSEC neither 0 to 127 nor 255, message type above 7,
      * slot above 98,303, epoch above 112, or slot above 45,151 in epoch 112. */
     ALTUVRIN_NETWORK_HEADER = 13,
-    /* The body of message type 0 is not 6 bytes and whole words of 10. */
+    /* The body of message type 0 is not 6 bytes and whole words of 10, or that of type 1 or 2
+     * (round-trip timing) is not 6 bytes. */
     ALTUVRIN_BODY_SIZE = 14,
-    /* More than 12 words in message type 0, or more than 256 bytes in types 1 to 7. */
+    /* More than 12 words in message type 0, or more than 256 bytes in types 3 to 7. */
     ALTUVRIN_BODY_LIMIT = 15,
-    /* The first byte is no kind of trunk record: not 0 to 12, 16 or 32. */
+    /* The first byte is no kind of trunk record: not 0 to 12, 16, 17, 18 or 32. */
     ALTUVRIN_RECORD_KIND = 20,
     /* A record is empty, or not the length of its kind. */
     ALTUVRIN_RECORD_LENGTH = 21,
-    /* The bytes after a record's number are not a PDU of its kind, as the writer gives it:
-     * a Signal of message type 0 with 0 to 12 words, or a Transmitter, its padding zero. */
+    /* The bytes after a record's number are not a PDU of its kind, as the writer gives it: a
+     * Signal of message type 0 with 0 to 12 words, a Transmitter (kind 16), or a Signal of message
+     * type 1 (kind 17) or 2 (kind 18); its padding zero, in types 1 and 2 also that inside the
+     * body, the upper 13 of its 48 bits. Types 3 to 7 have no kind. */
     ALTUVRIN_RECORD_PDU = 22,
     /* A record with a PDU has the number 4,294,967,295; a reply may have it. */
     ALTUVRIN_RECORD_NUMBER = 25
@@ -126,7 +129,7 @@ static inline const char *altuvrin_reason(uint32_t number)
     case ALTUVRIN_TDL_TYPE: return "TDL type";
     case ALTUVRIN_DATA_LENGTH: return "data length";
     case ALTUVRIN_NETWORK_HEADER: return "network header";
-    case ALTUVRIN_BODY_SIZE: return "body is not whole words";
+    case ALTUVRIN_BODY_SIZE: return "size of the body";
     case ALTUVRIN_BODY_LIMIT: return "body too long";
     case ALTUVRIN_RECORD_KIND: return "kind of record";
     case ALTUVRIN_RECORD_LENGTH: return "length of the record";

@@ -74,6 +74,11 @@ void make_words(struct datagram *datagram, size_t words)
     make_signal(datagram, 0, WORDS_HEADER_SIZE + WORD_SIZE * words);
 }
 
+void make_timing(struct datagram *datagram, uint32_t message_type)
+{
+    make_signal(datagram, message_type, TIMING_SIZE);
+}
+
 void resize_body(struct datagram *datagram, size_t body_bytes)
 {
     size_t data_bytes = NETWORK_HEADER_SIZE + body_bytes;

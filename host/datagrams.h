@@ -1,6 +1,7 @@
 /*
  * Builds Link 16 datagrams for the example host and for the tests. Every number here stands in
- * document 01: "Bytes 0 to 19, both PDUs", "Transmitter, 112 bytes" and "Signal".
+ * document 01: "Bytes 0 to 19, both PDUs", "Transmitter, 112 bytes" and "Signal"; those of
+ * round-trip timing in document 02, R-1.
  */
 #ifndef DATAGRAMS_H
 #define DATAGRAMS_H
@@ -50,6 +51,8 @@ static const struct field MSEC = {36, 1};
 static const struct field MESSAGE_TYPE = {37, 1};
 static const struct field MESSAGE_TYPE_PADDING = {38, 2};
 static const struct field SLOT_ID = {40, 4};
+/* The first bytes of a body; in round-trip timing they begin with its padding. */
+static const struct field BODY_START = {52, 2};
 
 /* The values that a rule names. */
 enum {
@@ -79,11 +82,14 @@ enum {
     LAST_NET = 127,
     LAST_SECURITY_SETTING = 127,
     NO_SECURITY_SETTING = 255,
+    RTT = 1,
+    RTT_REPLY = 2,
     LAST_MESSAGE_TYPE = 7,
     SLOT_ID_PADDING = 0x00FE0000,
     LAST_SLOT = 98303,
     LAST_EPOCH = 112,
-    LAST_SLOT_OF_LAST_EPOCH = 45151
+    LAST_SLOT_OF_LAST_EPOCH = 45151,
+    TIMING_PADDING = 0xFFF8
 };
 
 /* Sizes, in bytes unless the name says otherwise. */
@@ -97,6 +103,7 @@ enum {
     WORD_SIZE = 10,
     WORDS_MAX = 12,
     BODY_MAX = 256,
+    TIMING_SIZE = 6,
     FILL_MULTIPLE = 4,
     DATAGRAM_ROOM = 70000
 };
@@ -124,6 +131,9 @@ void make_signal(struct datagram *datagram, uint32_t message_type, size_t body_b
 
 /* A Signal of message type 0 with this many words. */
 void make_words(struct datagram *datagram, size_t words);
+
+/* A Signal of round-trip timing: message type 1 or 2. */
+void make_timing(struct datagram *datagram, uint32_t message_type);
 
 /* Gives a Signal another body size; data length, fill and length field follow. */
 void resize_body(struct datagram *datagram, size_t body_bytes);

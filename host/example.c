@@ -53,8 +53,12 @@ static void show_signals(void)
     make_words(&datagram, 1);
     put(&datagram, SLOT_ID, slot_id(0, LAST_SLOT + 1));
     show("Signal in slot 98,304", &datagram);
-    make_signal(&datagram, 1, BODY_MAX);
-    show("Signal of type 1, 256 bytes", &datagram);
+    make_timing(&datagram, RTT);
+    show("Signal of type 1, 6 bytes", &datagram);
+    resize_body(&datagram, TIMING_SIZE + 1);
+    show("Signal of type 1, 7 bytes", &datagram);
+    make_signal(&datagram, LAST_MESSAGE_TYPE, BODY_MAX);
+    show("Signal of type 7, 256 bytes", &datagram);
     datagram.length = START_SIZE - 1;
     show("11 bytes", &datagram);
 }
@@ -65,6 +69,10 @@ static void show_records(void)
     show_record("Record 5, Signal of 12 words", &datagram);
     put(&datagram, carried(MESSAGE_TYPE), 1);
     show_record("Record 5, its Signal of type 1", &datagram);
+    make_record(&datagram, RTT_REPLY_KIND, 5);
+    show_record("Record 5, Signal of type 2", &datagram);
+    put(&datagram, carried(BODY_START), TIMING_PADDING);
+    show_record("Record 5, padding in its body", &datagram);
     make_record(&datagram, REPLY_KIND, 6);
     show_record("Reply 6", &datagram);
     datagram.length -= 1;

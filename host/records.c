@@ -10,6 +10,10 @@ void make_record(struct datagram *record, uint32_t kind, uint32_t number)
         pdu.length = 0;
     else if (kind == TRANSMITTER_KIND)
         make_transmitter(&pdu);
+    else if (kind == RTT_KIND)
+        make_timing(&pdu, RTT);
+    else if (kind == RTT_REPLY_KIND)
+        make_timing(&pdu, RTT_REPLY);
     else
         make_words(&pdu, kind);
     make_record_of(record, kind, number, &pdu);

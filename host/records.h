@@ -1,6 +1,7 @@
 /*
  * Builds trunk records for the example host and for the tests. Every number here stands in
- * document 01, "The trunk". A record is built in a struct datagram: bytes and their length.
+ * document 01, "The trunk", or document 02, R-1. A record is built in a struct datagram: bytes and
+ * their length.
  */
 #ifndef RECORDS_H
 #define RECORDS_H
@@ -11,7 +12,7 @@ static const struct field RECORD_KIND = {0, 1};
 static const struct field RECORD_NUMBER = {1, 4};
 
 /* Kinds 0 to 12 are those of Signals with so many words. */
-enum { TRANSMITTER_KIND = 16, REPLY_KIND = 32 };
+enum { TRANSMITTER_KIND = 16, RTT_KIND = 17, RTT_REPLY_KIND = 18, REPLY_KIND = 32 };
 
 /* Kind and number; in a reply nothing follows. */
 enum { RECORD_HEAD_SIZE = 5 };

@@ -78,9 +78,14 @@ fn number(text: &str) -> Option<u64> {
     script::number(text).filter(|&number| number <= NUMBER_MAX)
 }
 
+/// The kinds that a cycle may have: Signals of words, and Transmitters.
+pub fn has_cycle(kind: Kind) -> bool {
+    matches!(kind, Kind::Signal(_) | Kind::Transmitter)
+}
+
 fn carrying_kind(number: u64) -> Option<Kind> {
     let kind = Kind::from_byte(u8::try_from(number).ok()?)?;
-    Some(kind).filter(|&kind| kind != Kind::Reply)
+    Some(kind).filter(|&kind| has_cycle(kind))
 }
 
 /// A Signal of so many words, the first of them a PPLI's.
@@ -93,7 +98,7 @@ fn ppli(unit: u16, words: usize) -> Vec<u8> {
 }
 
 fn fresh_station() -> Station {
-    let (station, _) = Station::new(0, NET);
+    let (station, _) = Station::new(0, NET, 1);
     station
 }
 

@@ -1,5 +1,6 @@
-//! The second program: document 01 once more, written from its text alone. It compares its
-//! answers with those of the proved archive and of the proved programs.
+//! The second program: document 01, with the requests of document 02 that have landed, once more,
+//! written from their text alone. It compares its answers with those of the proved archive and of the
+//! proved programs.
 
 mod archive;
 mod bench;

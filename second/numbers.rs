@@ -1,4 +1,4 @@
-//! The refusals of document 01, "The numbers" and "The station".
+//! The refusals of document 01, "The numbers" and "The station", and of document 02.
 
 /// Why a call refuses, with its number.
 #[derive(Clone, Copy, Debug, PartialEq, Eq)]

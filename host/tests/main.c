@@ -9,5 +9,6 @@ int main(void)
     test_sizes();
     test_order();
     test_records();
+    test_timing();
     return check_report();
 }

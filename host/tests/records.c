@@ -1,4 +1,4 @@
-/* Trunk records: document 01, "The trunk" and the numbers 20, 21, 22 and 25. */
+/* Trunk records: document 01, "The trunk" and the numbers 20, 21, 22 and 25; document 02, R-1. */
 #include "../records.h"
 #include "../altuvrin.h"
 #include "check.h"
@@ -17,8 +17,9 @@ struct kind {
 };
 
 static const struct kind KINDS[] = {
-    {0, 65},  {1, 73},  {2, 85},   {3, 93},   {4, 105},  {5, 113},  {6, 125}, {7, 133},
-    {8, 145}, {9, 153}, {10, 165}, {11, 173}, {12, 185}, {16, 117}, {32, 5},
+    {0, 65},   {1, 73},   {2, 85},   {3, 93},   {4, 105},  {5, 113},
+    {6, 125},  {7, 133},  {8, 145},  {9, 153},  {10, 165}, {11, 173},
+    {12, 185}, {16, 117}, {17, 65},  {18, 65},  {32, 5},
 };
 
 /* All kinds but the reply's, which is the last, carry a PDU. */
@@ -64,7 +65,7 @@ static bool is_known(uint32_t kind)
 
 static void test_unknown_kinds(void)
 {
-    static const uint32_t beside_known[] = {13, 15, 17, 31, 33, 255};
+    static const uint32_t beside_known[] = {13, 15, 19, 31, 33, 255};
     for (size_t i = 0; i < COUNT(beside_known); i++) {
         check_begin(name("unknown", beside_known[i]));
         sample_unknown(beside_known[i]);
@@ -123,9 +124,25 @@ static void sample_padding(struct field field, uint32_t padding)
     put(&record, carried(field), before);
 }
 
+static const uint32_t all = UINT32_MAX;
+
+/* One check: a Signal's padding, the fill behind its body, and what is padding inside it. */
+static void check_signal_padding(uint32_t kind, size_t body_end, uint32_t in_body)
+{
+    make_record(&record, kind, 0);
+    check_begin(name("padding and fill", kind));
+    sample_padding(PADDING, all);
+    sample_padding(MESSAGE_TYPE_PADDING, all);
+    sample_padding(SLOT_ID, SLOT_ID_PADDING);
+    sample_padding(BODY_START, in_body);
+    for (size_t at = body_end; at < record.length - RECORD_HEAD_SIZE; at++)
+        sample_padding((struct field){at, 1}, all);
+    sample_record(&record, ALTUVRIN_TAKEN);
+    check_end();
+}
+
 static void test_padding(void)
 {
-    static const uint32_t all = UINT32_MAX;
     make_record(&record, TRANSMITTER_KIND, 0);
     check_begin(name("padding", TRANSMITTER_KIND));
     sample_padding(PADDING, all);
@@ -133,21 +150,26 @@ static void test_padding(void)
     sample_padding(MODULATION_PADDING, all);
     sample_record(&record, ALTUVRIN_TAKEN);
     check_end();
-    for (uint32_t words = 0; words <= WORDS_MAX; words++) {
-        make_record(&record, words, 0);
-        check_begin(name("padding and fill", words));
-        sample_padding(PADDING, all);
-        sample_padding(MESSAGE_TYPE_PADDING, all);
-        sample_padding(SLOT_ID, SLOT_ID_PADDING);
-        for (size_t at = 58 + WORD_SIZE * words; at < record.length - RECORD_HEAD_SIZE; at++)
-            sample_padding((struct field){at, 1}, all);
-        sample_record(&record, ALTUVRIN_TAKEN);
-        check_end();
-    }
+    for (uint32_t words = 0; words <= WORDS_MAX; words++)
+        check_signal_padding(words, 58 + WORD_SIZE * words, 0);
+    check_signal_padding(RTT_KIND, 58, TIMING_PADDING);
+    check_signal_padding(RTT_REPLY_KIND, 58, TIMING_PADDING);
+}
+
+/* Whether a Signal of this type, from 1 to 7, with a body of so many bytes is taken. */
+static bool is_taken(uint32_t type, size_t body)
+{
+    return (type != RTT && type != RTT_REPLY) || body == TIMING_SIZE;
+}
+
+/* Whether records of this kind carry Signals of this type, from 1 to 7. */
+static bool carries(uint32_t kind, uint32_t type)
+{
+    return (kind == RTT_KIND && type == RTT) || (kind == RTT_REPLY_KIND && type == RTT_REPLY);
 }
 
 /* One check: Signals of types 1 to 7 that have the size of what this kind carries. */
-static void check_other_types(const struct kind *kind)
+static void check_types(const struct kind *kind)
 {
     static struct datagram signal;
     size_t body = kind->length - RECORD_HEAD_SIZE - SIGNAL_FIXED_SIZE - NETWORK_HEADER_SIZE;
@@ -156,14 +178,16 @@ static void check_other_types(const struct kind *kind)
         for (size_t fill = 0; fill < FILL_MULTIPLE; fill++) {
             make_signal(&signal, type, body - fill);
             make_record_of(&record, kind->kind, 0, &signal);
-            sample(&signal, ALTUVRIN_TAKEN);
-            sample_record(&record, ALTUVRIN_RECORD_PDU);
+            bool taken = is_taken(type, body - fill);
+            sample(&signal, taken ? ALTUVRIN_TAKEN : ALTUVRIN_BODY_SIZE);
+            sample_record(&record, taken && carries(kind->kind, type) ? ALTUVRIN_TAKEN
+                                                                      : ALTUVRIN_RECORD_PDU);
         }
     }
     check_end();
 }
 
-/* One check: the PDUs of all other kinds, which have other lengths. */
+/* One check: the PDUs of all other kinds, at their own length and at that of this kind. */
 static void check_other_kinds(const struct kind *kind)
 {
     check_begin(name("another kind's PDU", kind->kind));
@@ -172,7 +196,8 @@ static void check_other_kinds(const struct kind *kind)
             continue;
         make_record(&record, KINDS[i].kind, 0);
         put(&record, RECORD_KIND, kind->kind);
-        sample_record(&record, ALTUVRIN_RECORD_LENGTH);
+        if (KINDS[i].length != kind->length)
+            sample_record(&record, ALTUVRIN_RECORD_LENGTH);
         record.length = kind->length;
         sample_record(&record, kind->kind == REPLY_KIND ? ALTUVRIN_TAKEN : ALTUVRIN_RECORD_PDU);
     }
@@ -208,6 +233,8 @@ static void test_damaged(void)
     check_damaged(TRANSMITTER_KIND, transmitter, COUNT(transmitter));
     for (uint32_t words = 0; words <= WORDS_MAX; words++)
         check_damaged(words, signal, COUNT(signal));
+    check_damaged(RTT_KIND, signal, COUNT(signal));
+    check_damaged(RTT_REPLY_KIND, signal, COUNT(signal));
 }
 
 /* One check: bytes that the reader keeps may hold anything. */
@@ -226,10 +253,12 @@ void test_records(void)
     test_numbers();
     test_padding();
     for (size_t i = 0; i < PDU_KINDS; i++)
-        check_other_types(&KINDS[i]);
+        check_types(&KINDS[i]);
     for (size_t i = 0; i < COUNT(KINDS); i++)
         check_other_kinds(&KINDS[i]);
     test_damaged();
     check_kept(TRANSMITTER_KIND, 32, 69);
     check_kept(WORDS_MAX, 44, 177);
+    check_kept(RTT_KIND, 54, 57);
+    check_kept(RTT_REPLY_KIND, 54, 57);
 }

@@ -1,4 +1,4 @@
-/* Lengths: document 01, "Signal" and the numbers 1, 4, 8, 12, 14 and 15. */
+/* Lengths: document 01, "Signal" and the numbers 1, 4, 8, 12, 14 and 15; document 02, R-1. */
 #include "../altuvrin.h"
 #include "check.h"
 #include "tests.h"
@@ -58,7 +58,7 @@ static void test_lengths(void)
     check_resized("Signal of more bytes", 61, 100, ALTUVRIN_PDU_SIZE);
 }
 
-/* What a type 0 Signal of 60 bytes gets for this data length. */
+/* What a Signal of 60 bytes of type 0, 1 or 2 gets for this data length. */
 static uint32_t number_of_data_length(uint32_t bits)
 {
     if (bits % 8 != 0 || bits < 160)
@@ -68,15 +68,23 @@ static uint32_t number_of_data_length(uint32_t bits)
     return bits == 8 * 26 ? ALTUVRIN_TAKEN : ALTUVRIN_BODY_SIZE;
 }
 
-static void test_data_lengths(void)
+/* One check: this message type with each data length. */
+static void check_data_lengths(const char *what, uint32_t message_type)
 {
-    make_words(&datagram, 0);
-    check_begin("every data length in 60 bytes");
+    make_signal(&datagram, message_type, 6);
+    check_begin(what);
     for (uint32_t bits = 0; bits < 65536; bits++) {
         put(&datagram, DATA_LENGTH, bits);
         sample(&datagram, number_of_data_length(bits));
     }
     check_end();
+}
+
+static void test_data_lengths(void)
+{
+    check_data_lengths("every data length in 60 bytes, type 0", 0);
+    check_data_lengths("every data length in 60 bytes, type 1", RTT);
+    check_data_lengths("every data length in 60 bytes, type 2", RTT_REPLY);
 }
 
 static uint32_t number_of_words(size_t body_bytes)
@@ -87,8 +95,13 @@ static uint32_t number_of_words(size_t body_bytes)
                                                                   : ALTUVRIN_TAKEN;
 }
 
-static uint32_t number_of_bytes(size_t body_bytes)
+/* What a body of this message type and size gets. */
+static uint32_t number_of_body(uint32_t message_type, size_t body_bytes)
 {
+    if (message_type == 0)
+        return number_of_words(body_bytes);
+    if (message_type == RTT || message_type == RTT_REPLY)
+        return body_bytes == TIMING_SIZE ? ALTUVRIN_TAKEN : ALTUVRIN_BODY_SIZE;
     return body_bytes > BODY_MAX ? ALTUVRIN_BODY_LIMIT : ALTUVRIN_TAKEN;
 }
 
@@ -101,7 +114,7 @@ static void check_bodies(const char *what, uint32_t message_type)
     check_begin(what);
     for (size_t body = 0; body <= BODY_TOLD_MAX; body++) {
         make_signal(&datagram, message_type, body);
-        sample(&datagram, message_type == 0 ? number_of_words(body) : number_of_bytes(body));
+        sample(&datagram, number_of_body(message_type, body));
     }
     check_end();
 }

@@ -17,4 +17,7 @@ void test_order(void);
 /* Trunk records: kinds, lengths, numbers and what they carry. */
 void test_records(void);
 
+/* Round-trip timing, message types 1 and 2: their size, and their body bit by bit. */
+void test_timing(void);
+
 #endif

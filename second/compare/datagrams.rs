@@ -11,7 +11,8 @@ use std::process::ExitCode;
 pub const DEFAULT_COUNT: u64 = 1_000_000;
 
 /// Each kind's answers stand in the order of document 01, "The numbers"; refusals 1 to 3 come
-/// before the kind of PDU is known.
+/// before the kind of PDU is known. Signals of types 1 and 2 are told apart where the body's rules
+/// decide.
 pub const DATAGRAMS: Subject = Subject {
     name: "datagrams",
     own: read::answer,
@@ -20,6 +21,8 @@ pub const DATAGRAMS: Subject = Subject {
         ("Datagram", &[1, 2, 3]),
         ("Transmitter", &[4, 5, 6, 7, 8, 9, 0]),
         ("Signal", &[4, 10, 11, 12, 8, 13, 14, 15, 0]),
+        ("Type 1", &[14, 0]),
+        ("Type 2", &[14, 0]),
     ],
     about,
     command: "compare",
@@ -28,14 +31,22 @@ pub const DATAGRAMS: Subject = Subject {
 
 fn about(datagram: &[u8], number: u32) -> String {
     let transmitter = Some(u64::from(pdu::TRANSMITTER_TYPE));
-    let about = if (1..=3).contains(&number) {
-        "Datagram"
+    if (1..=3).contains(&number) {
+        "Datagram".to_string()
     } else if layout::PDU_TYPE.get(datagram) == transmitter {
-        "Transmitter"
+        "Transmitter".to_string()
     } else {
-        "Signal"
-    };
-    about.to_string()
+        about_signal(datagram, number)
+    }
+}
+
+fn about_signal(signal: &[u8], number: u32) -> String {
+    match layout::MESSAGE_TYPE.get(signal) {
+        Some(message_type) if layout::is_timing(signal) && [0, 14, 15].contains(&number) => {
+            format!("Type {message_type}")
+        }
+        _ => "Signal".to_string(),
+    }
 }
 
 /// Runs the whole comparison with the self checks and prints the outcome.

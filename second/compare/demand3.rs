@@ -85,7 +85,7 @@ pub struct History {
 
 impl History {
     fn new() -> Self {
-        let (station, _) = Station::new(0, 0);
+        let (station, _) = Station::new(0, 0, 1);
         History {
             accepted: Vec::new(),
             put_out: 0,
@@ -157,8 +157,8 @@ impl History {
     /// Takes a call and the line printed for it into the history.
     fn note(&mut self, line: &Line, outcome: Option<&Outcome>) -> Result<(), Fault> {
         match (line, outcome) {
-            (Line::Station { level, net }, Some(Outcome::Station(number))) => {
-                let (station, answer) = Station::new(*level, *net);
+            (Line::Station(settings), Some(Outcome::Station(number))) => {
+                let (station, answer) = settings.station();
                 self.station = station;
                 holds(*number == numbers::number(answer), "the station's maker")?;
             }

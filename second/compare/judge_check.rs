@@ -1,13 +1,14 @@
-//! The judge of demand 3 on a script of known calls: it takes what the second program prints for
+//! The judge of demand 3 on scripts of known calls: it takes what the second program prints for
 //! them, and finds each slip that is made in it.
 
 use super::demand3::{self, Fault, History};
 use super::replay::going_on;
 use crate::check::{Claim, Report};
-use crate::sample::units::{signal, transmitter, FINE_MODULATION};
+use crate::pdu::Modulation;
+use crate::sample::units::{signal, signal_of, transmitter, FINE_MODULATION};
 use crate::trunk::record::{self, Kind};
 use crate::trunk::replay;
-use crate::trunk::script::Line;
+use crate::trunk::script::{Line, Settings};
 use crate::trunk::word::Word;
 
 const NET: u8 = 5;
@@ -15,17 +16,13 @@ const NET: u8 = 5;
 /// Two PDUs are accepted; the first is put out and acknowledged.
 fn script() -> Vec<u8> {
     let first = transmitter(1, FINE_MODULATION);
-    let arrival = Line::Far {
-        record: [&record::head(Kind::Transmitter, 0)[..], &first].concat(),
-        room: 180,
-        reply_room: 5,
-    };
+    let arrival = arrival(Kind::Transmitter, 0, &first);
     let send = Line::Send {
         number: 0,
         room: 185,
     };
     let lines = [
-        Line::Station { level: 0, net: NET },
+        station(0, None),
         Line::Offer(first),
         send,
         arrival.clone(),
@@ -36,6 +33,58 @@ fn script() -> Vec<u8> {
     ];
     going_on(b"", &lines)
 }
+
+fn station(level: u8, exchanges: Option<u8>) -> Line {
+    Line::Station(Settings {
+        level,
+        net: NET,
+        exchanges,
+    })
+}
+
+/// The record of a PDU arrives, with room in the lent buffers.
+fn arrival(kind: Kind, number: u32, pdu: &[u8]) -> Line {
+    Line::Far {
+        record: [&record::head(kind, number)[..], pdu].concat(),
+        room: 180,
+        reply_room: 5,
+    }
+}
+
+/// A station of level 4 becomes Coarse, and Fine by two timing messages.
+fn timing_script() -> Vec<u8> {
+    let level_4 = Modulation {
+        tsa_level: 4,
+        ..FINE_MODULATION
+    };
+    let reply = signal_of(1, NET, 2, &[0, 7, 0, 0, 0, 1]);
+    let pdus = [
+        (Kind::Transmitter, transmitter(1, level_4)),
+        (Kind::Signal(1), signal(1, NET, &[Word::initial(0, 0)])),
+        (Kind::RttReply, reply.clone()),
+        (Kind::RttReply, reply),
+    ];
+    let mut lines = vec![station(4, Some(2))];
+    for (number, (kind, pdu)) in (0..).zip(pdus) {
+        lines.push(Line::Offer(pdu.clone()));
+        lines.push(arrival(kind, number, &pdu));
+    }
+    going_on(b"", &lines)
+}
+
+/// Places of the lines printed for it.
+const FIRST_COUNTED: usize = 6;
+const LAST_COUNTED: usize = 8;
+const TIMED_STATE: usize = 10;
+const TIMED_COUNT: usize = 11;
+
+const TIMING_SLIPS: [Slip; 5] = [
+    (FIRST_COUNTED, " 47 ", " 44 ", ANSWER),
+    (LAST_COUNTED, " 47 ", " 44 ", ANSWER),
+    (TIMED_STATE, "fine", "coarse", END),
+    (TIMED_COUNT, "timing 2 2", "timing 2 1", END),
+    (TIMED_COUNT, "timing 2 2", "timing 1 2", END),
+];
 
 /// Places of the printed lines: those of the script, of the handover of record 1 and its reply, and
 /// of the end.
@@ -49,6 +98,7 @@ const HANDOVER: usize = 8;
 const HANDOVER_REPLY: usize = 9;
 const COUNTS: usize = 10;
 const STATION: usize = 11;
+const COUNTED: usize = 12;
 
 /// The sentences that slips break.
 const NUMBER: &str = "the number of a PDU accepted";
@@ -63,7 +113,11 @@ const NEXT: &str = "handing over record k and its reply makes acknowledged k + 1
 const END: &str = "counts or station at the end";
 
 /// A text in the line of a place, what stands there instead, and the sentence that it breaks.
-const SLIPS: [(usize, &str, &str, &str); 11] = [
+type Slip = (usize, &'static str, &'static str, &'static str);
+/// The same of a whole line.
+type OtherLine = (usize, &'static str, &'static str);
+
+const SLIPS: [Slip; 12] = [
     (OFFER, "offer 0", "offer 1", NUMBER),
     (SEND, " 1000000000", " 1000000001", RECORD),
     (DELIVERY, " 06", " 05", ORDER),
@@ -75,10 +129,10 @@ const SLIPS: [(usize, &str, &str, &str); 11] = [
     (HANDOVER_REPLY, "near 2", "near 1", ACKNOWLEDGED),
     (COUNTS, "counts 2 2 2", "counts 2 1 2", END),
     (STATION, "fine", "coarse", END),
+    (COUNTED, "timing 1 0", "timing 1 1", END),
 ];
 
-/// The same of whole lines.
-const OTHER_LINES: [(usize, &str, &str); 5] = [
+const OTHER_LINES: [OtherLine; 5] = [
     (DELIVERY, "far refused 16", PUT_OUT),
     (DELIVERY, "far early 2000000000", PUT_OUT),
     (HANDOVER, "far refused 22", PUT_OUT),
@@ -101,11 +155,24 @@ pub fn run(report: &mut Report) {
     let judged = demand3::judge(&longer, &printed);
     claim.sample(judged.is_ok(), || format!("{judged:?}"));
     report.count_own(&claim);
-    report.count_own(&finds_slips(&longer, &printed));
+    let mut claim = Claim::new("the judge of demand 3 finds each slip");
+    find_slips(&longer, &SLIPS, &OTHER_LINES, &mut claim);
+    report.count_own(&claim);
+    report.count_own(&follows_timing());
 }
 
-fn finds_slips(script: &[u8], printed: &str) -> Claim {
-    let mut claim = Claim::new("the judge of demand 3 finds each slip");
+fn follows_timing() -> Claim {
+    let mut claim = Claim::new("the judge of demand 3 follows timing, and finds each slip");
+    let script = timing_script();
+    let judged = demand3::judge(&script, &replay::run(&script));
+    claim.sample(judged.is_ok(), || format!("{judged:?}"));
+    find_slips(&script, &TIMING_SLIPS, &[], &mut claim);
+    claim
+}
+
+/// Each slip in what the second program prints for the script breaks its sentence.
+fn find_slips(script: &[u8], slips: &[Slip], others: &[OtherLine], claim: &mut Claim) {
+    let printed = replay::run(script);
     let lines: Vec<&str> = printed.lines().collect();
     let mut find = |place: usize, slip: &str, sentence: &str| {
         let mut lines = lines.clone();
@@ -114,13 +181,12 @@ fn finds_slips(script: &[u8], printed: &str) -> Claim {
         let found = matches!(&fault, Some(Fault::Broken(what)) if what.ends_with(sentence));
         claim.sample(found, || format!("'{slip}': {fault:?}, not '{sentence}'"));
     };
-    for (place, from, to, sentence) in SLIPS {
-        find(place, &lines[place].replacen(from, to, 1), sentence);
+    for (place, from, to, sentence) in slips {
+        find(*place, &lines[*place].replacen(from, to, 1), sentence);
     }
-    for (place, slip, sentence) in OTHER_LINES {
-        find(place, slip, sentence);
+    for (place, slip, sentence) in others {
+        find(*place, slip, sentence);
     }
-    claim
 }
 
 /// Demand 3 speaks neither of a record that no call wrote nor of a store that somebody else writes.

@@ -1,8 +1,9 @@
-//! The second program's station and ends on cases that document 01 tells in words: its "Sizes and
-//! edges", its "Wrong by one rule", and each sentence of the rules that a slip could turn round.
-//! The numbers are document 01's own.
+//! The second program's station and ends on cases that documents 01 and 02 tell in words: 01's
+//! "Sizes and edges" and "Wrong by one rule", and each sentence of the rules that a slip could turn
+//! round. The numbers are the documents' own.
 
 use super::self_check::MARK;
+use super::timing_cases;
 use crate::check::{Claim, Report};
 use crate::numbers::{self, Refusal};
 use crate::pdu::{Modulation, COARSE, TRANSMITTER_SIZE};
@@ -13,18 +14,18 @@ use crate::trunk::record::{Kind, ACCEPTED_MAX, HEAD_SIZE, PDU_SIZE_MAX, REPLY_SI
 use crate::trunk::station::{self, State, Station};
 use crate::trunk::word::Word;
 
-const NET: u8 = 5;
-const NETWORK_TIME: (u8, u8) = (0, 0);
-const POSITION: (u8, u8) = (2, 2);
-const TRACK: (u8, u8) = (3, 2);
+pub const NET: u8 = 5;
+pub const NETWORK_TIME: (u8, u8) = (0, 0);
+pub const POSITION: (u8, u8) = (2, 2);
+pub const TRACK: (u8, u8) = (3, 2);
+
+/// What is claimed, and what tries it.
+pub type Case = (&'static str, fn(&mut Trial));
 
 /// Counts a check for each case.
 pub fn run(report: &mut Report) {
-    let cases = [
-        (
-            "last heard at 40: in at 99, removed at 100",
-            absence as fn(&mut Trial),
-        ),
+    let cases: [Case; 11] = [
+        ("last heard at 40: in at 99, removed at 100", absence),
         (
             "a Transmitter again: what it keeps and what it replaces",
             refreshing,
@@ -39,7 +40,7 @@ pub fn run(report: &mut Report) {
         ("eight unacknowledged, replies and sends", window),
         ("the last number", last_number),
     ];
-    for (what, case) in cases {
+    for (what, case) in cases.into_iter().chain(timing_cases::CASES) {
         let mut trial = Trial::new(what);
         case(&mut trial);
         report.count_own(&trial.claim);
@@ -47,20 +48,20 @@ pub fn run(report: &mut Report) {
 }
 
 /// A station with what is claimed of it.
-struct Trial {
+pub struct Trial {
     claim: Claim,
-    station: Station,
+    pub station: Station,
 }
 
 impl Trial {
     fn new(what: &str) -> Self {
         Trial {
             claim: Claim::new(what),
-            station: Station::new(0, NET).0,
+            station: Station::new(0, NET, 1).0,
         }
     }
 
-    fn equal<T: PartialEq + std::fmt::Debug>(&mut self, found: T, expected: T) {
+    pub fn equal<T: PartialEq + std::fmt::Debug>(&mut self, found: T, expected: T) {
         let describe = || format!("{found:?}, not {expected:?}, at {:?}", self.station);
         self.claim.sample(found == expected, describe);
     }
@@ -70,12 +71,12 @@ impl Trial {
         self.equal(station::number(answer), expected);
     }
 
-    fn transmitter(&mut self, unit: u16, modulation: Modulation, expected: u32) {
+    pub fn transmitter(&mut self, unit: u16, modulation: Modulation, expected: u32) {
         let answer = self.station.hear(&transmitter(unit, modulation));
         self.equal(station::number(answer), expected);
     }
 
-    fn signal(&mut self, unit: u16, (label, sublabel): (u8, u8), expected: u32) {
+    pub fn signal(&mut self, unit: u16, (label, sublabel): (u8, u8), expected: u32) {
         self.words(unit, &[Word::initial(label, sublabel)], expected);
     }
 
@@ -92,7 +93,7 @@ impl Trial {
     }
 }
 
-fn with_id(id: u32) -> Modulation {
+pub fn with_id(id: u32) -> Modulation {
     Modulation {
         tsa_level: 3,
         sync_id: id,
@@ -100,14 +101,14 @@ fn with_id(id: u32) -> Modulation {
     }
 }
 
-fn of_level(level: u8) -> Modulation {
+pub fn of_level(level: u8) -> Modulation {
     Modulation {
         tsa_level: level,
         ..FINE_MODULATION
     }
 }
 
-const NOT_FINE: Modulation = Modulation {
+pub const NOT_FINE: Modulation = Modulation {
     sync_state: COARSE,
     ..FINE_MODULATION
 };
@@ -166,7 +167,7 @@ fn ids(trial: &mut Trial) {
 }
 
 fn levels(trial: &mut Trial) {
-    trial.station = Station::new(4, NET).0;
+    trial.station = Station::new(4, NET, 1).0;
     trial.transmitter(1, of_level(4), 40);
     trial.transmitter(2, of_level(3), 40);
     trial.signal(1, NETWORK_TIME, 42);
@@ -177,7 +178,7 @@ fn levels(trial: &mut Trial) {
     trial.equal(trial.station.state, State::Fine);
     trial.signal(1, NETWORK_TIME, 42);
     trial.equal(trial.station.state, State::Fine);
-    trial.station = Station::new(3, NET).0;
+    trial.station = Station::new(3, NET, 1).0;
     trial.transmitter(1, of_level(4), 40);
     trial.signal(1, NETWORK_TIME, 42);
     trial.equal(trial.station.state, State::Fine);
@@ -241,26 +242,31 @@ fn order(trial: &mut Trial) {
 }
 
 fn settings(trial: &mut Trial) {
-    let fresh = Station::new(0, 0).0;
-    for (level, net, expected) in [(4, 127, 0), (5, 0, 37), (0, 128, 37)] {
-        let (station, answer) = Station::new(level, net);
-        let number = numbers::number(answer);
-        trial.equal(number, expected);
-        trial.equal(number == 0 || station == fresh, true);
+    let fresh = Station::new(0, 0, 1).0;
+    for (level, net, exchanges) in [(4, 127, 1), (4, 127, 16)] {
+        let (station, answer) = Station::new(level, net, exchanges);
+        trial.equal(numbers::number(answer), 0);
+        let made = (station.level, station.net, station.exchanges);
+        trial.equal(made, (level, net, exchanges));
+    }
+    for (level, net, exchanges) in [(5, 0, 1), (0, 128, 1), (4, 127, 0), (4, 127, 17)] {
+        let (station, answer) = Station::new(level, net, exchanges);
+        trial.equal(numbers::number(answer), 37);
+        trial.equal(&station, &fresh);
     }
 }
 
 /// Both ends, with a store and with buffers just long enough.
-struct Ends {
-    near: NearEnd,
-    store: [u8; STORE_SIZE],
+pub struct Ends {
+    pub near: NearEnd,
+    pub store: [u8; STORE_SIZE],
     far: FarEnd,
     output: [u8; PDU_SIZE_MAX],
     reply: [u8; REPLY_SIZE],
 }
 
 impl Ends {
-    fn new(station: &Station) -> Self {
+    pub fn new(station: &Station) -> Self {
         Ends {
             near: NearEnd::default(),
             store: [MARK; STORE_SIZE],

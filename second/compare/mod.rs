@@ -9,6 +9,7 @@ pub mod jobs;
 mod judge_check;
 mod known_cases;
 pub mod lister;
+mod offers;
 mod outputs;
 pub mod plans;
 pub mod program;
@@ -17,6 +18,7 @@ pub mod replay;
 mod self_check;
 mod shrink;
 mod tally;
+mod timing_cases;
 mod writer_check;
 
 pub use answers::compare_one;

@@ -13,7 +13,7 @@ use std::process::ExitCode;
 pub const DEFAULT_COUNT: u64 = 500_000;
 
 /// Each kind's answers stand in the order in which the check tests; 20 and the empty record come
-/// before the kind is known. Signals that are taken count by their kinds, 0 to 12.
+/// before the kind is known. Signals that are taken count by their kinds.
 pub const RECORDS: Subject = Subject {
     name: "records",
     own: record::answer,
@@ -23,6 +23,7 @@ pub const RECORDS: Subject = Subject {
         ("Reply", &[21, 0]),
         ("Transmitter", &[21, 25, 22, 0]),
         ("Signal", &[21, 25, 22]),
+        ("Timing", &[21, 25, 22]),
         ("Kind 0", TAKEN),
         ("Kind 1", TAKEN),
         ("Kind 2", TAKEN),
@@ -36,6 +37,8 @@ pub const RECORDS: Subject = Subject {
         ("Kind 10", TAKEN),
         ("Kind 11", TAKEN),
         ("Kind 12", TAKEN),
+        ("Kind 17", TAKEN),
+        ("Kind 18", TAKEN),
     ],
     about,
     command: "compare-records",
@@ -46,8 +49,11 @@ const TAKEN: &[u32] = &[0];
 
 fn about(bytes: &[u8], number: u32) -> String {
     match bytes.first().and_then(|&byte| Kind::from_byte(byte)) {
-        Some(kind @ Kind::Signal(_)) if number == 0 => format!("Kind {}", kind.byte()),
+        Some(kind @ (Kind::Signal(_) | Kind::Rtt | Kind::RttReply)) if number == 0 => {
+            format!("Kind {}", kind.byte())
+        }
         Some(Kind::Signal(_)) => "Signal".to_string(),
+        Some(Kind::Rtt | Kind::RttReply) => "Timing".to_string(),
         Some(Kind::Transmitter) => "Transmitter".to_string(),
         Some(Kind::Reply) => "Reply".to_string(),
         None => "Record".to_string(),
@@ -84,15 +90,18 @@ fn check_written_again(bytes: &[u8], claim: &mut Claim) {
     claim.sample(holds, || hex::encode(bytes));
 }
 
-/// Document 01, "Sizes and edges": the kinds of records by their bytes, with their sizes.
+/// Document 01, "Sizes and edges", and document 02, R-1: the kinds of records by their bytes, with
+/// their sizes.
 fn sizes() -> Claim {
     let mut claim = Claim::new("sizes of records");
-    for (byte, size) in [(0, 65), (1, 73), (2, 85), (12, 185), (16, 117), (32, 5)] {
+    let words = [(0, 65), (1, 73), (2, 85), (12, 185)];
+    let others = [(16, 117), (17, 65), (18, 65), (32, 5)];
+    for (byte, size) in words.into_iter().chain(others) {
         let found = Kind::from_byte(byte).map(Kind::size);
         claim.sample(found == Some(size), || format!("kind {byte}: {found:?}"));
     }
     let kinds = (0..=u8::MAX).filter(|&byte| Kind::from_byte(byte).is_some());
     let known = kinds.count();
-    claim.sample(known == 15, || format!("{known} kinds"));
+    claim.sample(known == 17, || format!("{known} kinds"));
     claim
 }

@@ -3,15 +3,17 @@
 use super::demand3::{self, Fault};
 use super::judge_check;
 use super::known_cases;
+use super::offers::Offers;
 use super::outputs::{Comparison, Format, Law, Run};
 use super::tally::{Name, Often};
 use crate::check::{Claim, Report};
 use crate::generate::line_cases;
 use crate::generate::scripts;
+use crate::pdu::read::read;
 use crate::random::Random;
 use crate::trunk::record::{Kind, Record, HEAD_SIZE};
 use crate::trunk::replay;
-use crate::trunk::script::{self, Line};
+use crate::trunk::script::{self, Line, Outcome};
 use std::collections::BTreeSet;
 use std::path::Path;
 use std::process::ExitCode;
@@ -24,8 +26,9 @@ const OFTEN: Often = Often {
 };
 const PROGRESS_STEP: u64 = 100;
 
-/// Answers stand in the order of document 01. Left out is 25 to an offer, for which more PDUs would
-/// have to be accepted than a script has.
+/// Answers stand in the order of documents 01 and 02. Left out is 25 to an offer, for which more PDUs
+/// would have to be accepted than a script has. Of the PDUs delivered, the Signals of types 1 and 2
+/// are told apart, and at the end the stations that timing messages made Fine.
 pub const REPLAY: Format = Format {
     command: "compare-replay",
     option: "--replay",
@@ -53,11 +56,11 @@ pub const REPLAY: Format = Format {
                 "40", "41", "30", "31", "32", "33", "34", "42", "43", "35", "44",
             ],
         ),
+        ("type 1", &["31", "32", "33", "44"]),
+        ("type 2", &["31", "32", "33", "34", "47", "44"]),
         ("clock", &["36", "46"]),
-        (
-            "end",
-            &["counts", "waiting", "coarse", "fine", "unit", "bad line"],
-        ),
+        ("end", &["counts", "waiting", "coarse", "fine"]),
+        ("end", &["timing", "fine by timing", "unit", "bad line"]),
     ],
     answer,
     law: Some(Law {
@@ -76,10 +79,11 @@ pub const REPLAY: Format = Format {
 fn answer(line: &str) -> Name {
     let words: Vec<&str> = line.split(' ').collect();
     let (about, answer) = match words[..] {
-        ["far", "delivered", _, answer, ..] => ("delivered", answer),
+        ["far", "delivered", _, answer, ..] => (about_delivered(line), answer),
         ["far", "repeat" | "early", ..] => ("far", words[1]),
         ["state", _, _, _, state, _] => ("end", state),
-        ["counts" | "unit", ..] => ("end", words[0]),
+        ["timing", exchanges, count] if exchanges == count => ("end", "fine by timing"),
+        ["counts" | "timing" | "unit", ..] => ("end", words[0]),
         ["bad", ..] => ("end", "bad line"),
         ["store", _] => ("store", "made"),
         ["poke", _] => ("poke", "done"),
@@ -89,6 +93,18 @@ fn answer(line: &str) -> Name {
         _ => ("", line),
     };
     (about.to_string(), answer.to_string())
+}
+
+/// The message type of a Signal of round-trip timing that the line puts out.
+fn about_delivered(line: &str) -> &'static str {
+    let Some(Outcome::Delivered { pdu, .. }) = Outcome::parse(line) else {
+        return "delivered";
+    };
+    match read(&pdu).as_ref().map(Kind::carrying) {
+        Ok(Some(Kind::Rtt)) => "type 1",
+        Ok(Some(Kind::RttReply)) => "type 2",
+        _ => "delivered",
+    }
 }
 
 /// The script without the arrivals of one PDU, those of later PDUs numbered one less; so for each
@@ -228,17 +244,22 @@ pub fn run(program: &Path, seed: u64, count: u64) -> Result<ExitCode, String> {
         comparison.compare(script.as_bytes())?;
     }
     let mut extents = Extents::default();
+    let mut offers = Offers::new();
     while extents.all.calls < count {
         let script = scripts::script(seeds.next());
         comparison.compare(&script)?;
-        extents.add(&script, &replay::run(&script));
+        let printed = replay::run(&script);
+        extents.add(&script, &printed);
+        offers.add(&script, &printed);
         let Extent { scripts, calls } = extents.all;
         if scripts % PROGRESS_STEP == 0 {
             eprintln!("compared {scripts} scripts, {calls} calls");
         }
     }
     let mut report = Report::default();
-    comparison.report(OFTEN.in_a_run_of(count), &mut report);
+    let least = OFTEN.in_a_run_of(count);
+    comparison.report(least, &mut report);
+    offers.report(least, &mut report);
     extents.report(&mut report);
     known_cases::run(&mut report);
     judge_check::run(&mut report);

@@ -8,7 +8,7 @@ use crate::numbers::Refusal;
 use crate::pdu::layout::{self, Field};
 use crate::pdu::read::read;
 use crate::pdu::write::write;
-use crate::pdu::{Header, Modulation, NetworkHeader, Pdu, Signal, Transmitter};
+use crate::pdu::{self, Header, Modulation, NetworkHeader, Pdu, Signal, Transmitter};
 
 /// What an output holds before a write, and room past the PDU that a write leaves alone.
 pub const MARK: u8 = 0xA5;
@@ -16,6 +16,8 @@ const SPARE: usize = 8;
 
 /// Claims about every datagram that is taken.
 pub struct SelfChecks {
+    /// So many bodies had padding inside that was not zero.
+    padded_bodies: u64,
     written: Claim,
     same_record: Claim,
     own_form: Claim,
@@ -26,6 +28,7 @@ pub struct SelfChecks {
 impl SelfChecks {
     pub fn new() -> Self {
         SelfChecks {
+            padded_bodies: 0,
             written: Claim::new("reading, then writing, gives the written form"),
             same_record: Claim::new("the written form reads as the same record"),
             own_form: Claim::new("the written form is its own written form"),
@@ -48,7 +51,10 @@ impl SelfChecks {
         self.written
             .sample(written == Ok(size) && start == form, describe);
         self.only_named.sample(spare == [MARK; SPARE], describe);
-        self.same_record.sample(read(&form) == Ok(pdu), describe);
+        let read_again = read(&form);
+        let same = read_again.is_ok_and(|form| has_same_content(&form, &pdu));
+        self.same_record.sample(same, describe);
+        self.padded_bodies += u64::from(has_padded_body(datagram));
         self.own_form
             .sample(layout::written_form(&form) == form, describe);
         let mut output = vec![MARK; size - 1];
@@ -64,6 +70,9 @@ impl SelfChecks {
         report.count_own(&self.own_form);
         report.count_own(&self.only_named);
         report.count_own(&self.short_output);
+        let mut padded = Claim::new("padding inside a body occurs, and is not zero");
+        padded.sample(self.padded_bodies > 0, || "it does not".to_string());
+        report.count_own(&padded);
         let (datagram, transmitter) = known_transmitter();
         check_known(
             "a known Transmitter",
@@ -79,8 +88,30 @@ impl SelfChecks {
             &Pdu::Signal(signal, body),
             report,
         );
+        for message_type in [1, 2] {
+            check_known_timing(message_type, report);
+        }
         writer_check::run(generator, report);
     }
+}
+
+/// The same fields; bodies are the same but for the padding inside them.
+fn has_same_content(one: &Pdu, other: &Pdu) -> bool {
+    match (one, other) {
+        (Pdu::Signal(one, body), Pdu::Signal(other, other_body))
+            if [1, 2].contains(&one.network.message_type) =>
+        {
+            one == other && pdu::timing(body) == pdu::timing(other_body)
+        }
+        _ => one == other,
+    }
+}
+
+/// A datagram that is taken, with padding inside its body that is not zero.
+fn has_padded_body(datagram: &[u8]) -> bool {
+    let start = layout::BODY_START.get(datagram).unwrap_or(0);
+    let is_signal = layout::PDU_TYPE.get(datagram) == Some(u64::from(pdu::SIGNAL_TYPE));
+    is_signal && layout::is_timing(datagram) && start & layout::TIMING_PADDING != 0
 }
 
 /// The datagram reads as this record, and the record writes as the datagram's written form.
@@ -187,6 +218,28 @@ fn known_signal() -> (Vec<u8>, Signal) {
         (layout::MESSAGE_TYPE, 0),
     ];
     (numbered_bytes(KNOWN_BODY_END, &fields), KNOWN_SIGNAL)
+}
+
+/// A Signal of round-trip timing. Of its body 34 35 36 37 38 39 (hex) the upper 13 bits are padding.
+fn check_known_timing(message_type: u8, report: &mut Report) {
+    const BODY: std::ops::Range<usize> = 52..58;
+    const WRITTEN: [u8; 8] = [0x00, 0x05, 0x36, 0x37, 0x38, 0x39, 0, 0];
+    let (mut datagram, mut signal) = known_signal();
+    datagram.truncate(60);
+    layout::LENGTH.put(&mut datagram, 60);
+    layout::DATA_LENGTH.put(&mut datagram, 8 * 26);
+    layout::MESSAGE_TYPE.put(&mut datagram, message_type.into());
+    signal.network.message_type = message_type;
+    let what = format!("a known Signal of type {message_type}");
+    let body = &datagram[BODY];
+    check_known(&what, &datagram, &Pdu::Signal(signal, body), report);
+    let mut claim = Claim::new(format!("{what}, its number and its padding"));
+    claim.sample(pdu::timing(body) == 0x0005_3637_3839, || {
+        format!("{:x}", pdu::timing(body))
+    });
+    let form = layout::written_form(&datagram);
+    claim.sample(form[BODY.start..] == WRITTEN, || hex::encode(&form));
+    report.count(&claim);
 }
 
 const KNOWN_SIGNAL: Signal = Signal {

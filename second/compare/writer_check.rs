@@ -1,5 +1,5 @@
 //! Checks that the second program's writer refuses with the right number and leaves the output
-//! as it was (document 01, "The numbers", the order of writing).
+//! as it was (document 01, "The numbers", the order of writing; 14 with document 02, R-1).
 
 use super::self_check::MARK;
 use crate::check::{Claim, Report};
@@ -47,7 +47,7 @@ const TRANSMITTER_BREAKERS: [Breaker<Transmitter>; 10] = [
 ];
 
 /// In the order of refusals.
-const SIGNAL_BREAKERS: [Breaker<Signal>; 20] = [
+const SIGNAL_BREAKERS: [Breaker<Signal>; 24] = [
     (2, |d| d.record.header.version = VERSIONS[0] - 1),
     (2, |d| d.record.header.version = VERSIONS[1] + 1),
     (10, |d| d.record.encoding = LAST_ENCODING + 1),
@@ -67,6 +67,10 @@ const SIGNAL_BREAKERS: [Breaker<Signal>; 20] = [
     (13, |d| set_slot(d, LAST_EPOCH, LAST_SLOT_OF_LAST_EPOCH + 1)),
     (14, |d| set_body(d, 0, WORDS_HEADER_SIZE - 1)),
     (14, |d| set_body(d, 0, WORDS_SIZE_MAX + WORD_SIZE + 1)),
+    (14, |d| set_body(d, RTT, 0)),
+    (14, |d| set_body(d, RTT, TIMING_SIZE + 1)),
+    (14, |d| set_body(d, RTT_REPLY, TIMING_SIZE - 1)),
+    (14, |d| set_body(d, RTT_REPLY, BODY_MAX + 1)),
     (15, |d| set_body(d, 0, WORDS_SIZE_MAX + WORD_SIZE)),
     (15, |d| set_body(d, LAST_MESSAGE_TYPE, BODY_MAX + 1)),
     (16, |d| d.short_output = true),

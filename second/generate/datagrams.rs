@@ -159,12 +159,22 @@ impl Generator {
     /// A valid Signal, its padding and fill random.
     pub fn signal(&mut self) -> Vec<u8> {
         let message_type = self.message_type();
-        if message_type == 0 {
-            let words = self.random.within(0, pdu::WORDS_MAX as u64);
-            return self.signal_of_words(words as usize);
+        let body = self.body_size(message_type);
+        self.signal_of(message_type.into(), body)
+    }
+
+    /// A size that a body of this message type may have.
+    fn body_size(&mut self, message_type: u8) -> u64 {
+        match message_type {
+            0 => {
+                let words = self.random.within(0, pdu::WORDS_MAX as u64);
+                pdu::words_size(words as usize) as u64
+            }
+            pdu::RTT | pdu::RTT_REPLY => pdu::TIMING_SIZE as u64,
+            // Types 3 to 7 may have the size of round-trip timing, and are not carried for that.
+            _ if self.random.one_in(8) => pdu::TIMING_SIZE as u64,
+            _ => self.random.within(0, pdu::BODY_MAX as u64),
         }
-        let body = self.random.within(0, pdu::BODY_MAX as u64);
-        self.signal_of(message_type, body)
     }
 
     /// A valid Signal of message type 0.
@@ -172,22 +182,31 @@ impl Generator {
         self.signal_of(0, pdu::words_size(words) as u64)
     }
 
-    /// A valid Signal of a message type from 1 to 7 that has this size, if there is one.
+    /// A valid Signal of round-trip timing, the padding inside its body random.
+    pub fn signal_of_timing(&mut self, message_type: u8) -> Vec<u8> {
+        self.signal_of(message_type.into(), pdu::TIMING_SIZE as u64)
+    }
+
+    /// A valid Signal of this size, if one is found; of any message type, 1 and 2 more often.
     pub fn signal_of_size(&mut self, size: usize) -> Option<Vec<u8>> {
-        let message_type = self.random.within(1, u64::from(pdu::LAST_MESSAGE_TYPE));
+        let any = self.random.within(0, pdu::LAST_MESSAGE_TYPE.into()) as u8;
+        let message_type = self.random.pick(&[pdu::RTT, pdu::RTT_REPLY, any, any]);
         let fixed = pdu::SIGNAL_FIXED_SIZE + pdu::NETWORK_HEADER_SIZE;
         let room = size.checked_sub(fixed)? as u64;
-        let fill = self.random.below(4);
-        let signal = self.signal_of(message_type, room.saturating_sub(fill));
+        let body = match message_type {
+            0..=pdu::RTT_REPLY => self.body_size(message_type),
+            _ => room.saturating_sub(self.random.below(4)),
+        };
+        let signal = self.signal_of(message_type.into(), body);
         Some(signal).filter(|signal| signal.len() == size)
     }
 
     /// Type 0 as often as the others together.
-    fn message_type(&mut self) -> u64 {
+    fn message_type(&mut self) -> u8 {
         if self.random.one_in(2) {
             0
         } else {
-            self.random.within(1, u64::from(pdu::LAST_MESSAGE_TYPE))
+            self.random.within(1, pdu::LAST_MESSAGE_TYPE.into()) as u8
         }
     }
 
@@ -195,12 +214,13 @@ impl Generator {
     fn signal_of_any_body(&mut self) -> Vec<u8> {
         let message_type = self.message_type();
         let body = match self.random.below(16) {
-            0..=6 => self.near_words(),
-            7..=10 => self.near(pdu::BODY_MAX as u64),
+            0..=4 => self.near_words(),
+            5..=7 => self.near(pdu::TIMING_SIZE as u64),
+            8..=10 => self.near(pdu::BODY_MAX as u64),
             11..=14 => self.random.below(2 * pdu::BODY_MAX as u64),
             _ => self.random.within(0, BODY_TOLD_MAX),
         };
-        self.signal_of(message_type, body)
+        self.signal_of(message_type.into(), body)
     }
 
     /// A body size at or beside that of some words.

@@ -4,16 +4,24 @@ use crate::hex;
 use crate::trunk::script::BYTES_MAX;
 
 /// Unreadable wherever they stand.
-const BAD_LINES: [&str; 74] = [
+const BAD_LINES: [&str; 82] = [
     "",
     " ",
     "station",
     "station 0",
-    "station 0 0 0",
+    "station 0 0 1 1",
     "station - 0",
     "station 0 -1",
     "station 256 0",
     "station 0 256",
+    "station 0 0 ",
+    "station 0 0 -",
+    "station 0 0 -1",
+    "station 0 0 256",
+    "station 0  0 1",
+    "station 0 0  1",
+    "station 0  1",
+    "station 0 0 1 ",
     "store",
     "store 4097",
     "store 1536 0",
@@ -92,8 +100,8 @@ const MISPLACED: [&[&str]; 3] = [
         "far - 0 0",
         "clock 0",
     ],
-    &["station 1 5"],
-    &["station 1 5", "store 1536"],
+    &["station 1 5", "station 1 5 1"],
+    &["station 1 5", "station 1 5 1", "store 1536"],
 ];
 /// What stands before a first line, a second and a later one.
 const BEFORE: [&str; 3] = ["", "station 1 5\n", "station 1 5\nclock 1\n"];
@@ -102,7 +110,7 @@ const AFTER: &str = "\nclock 2\n";
 
 /// Lines with the largest numbers that they may have, and `{}` for the most bytes.
 const AT_LIMITS: &str = "\
-station 255 255
+station 255 255 255
 store 4096
 poke 0 {}
 poke 4095 ff
@@ -113,6 +121,19 @@ near {}
 far {} 4096 4096
 clock 18446744073709551615
 ";
+
+/// First lines alone: the numbers of exchanges at the ends of their range and past them, a line
+/// that leaves it out, and numbers with zeros before them.
+const FIRST_LINES: [&str; 8] = [
+    "station 4 127 0",
+    "station 4 127 1",
+    "station 4 127 16",
+    "station 4 127 17",
+    "station 4 127 255",
+    "station 4 127",
+    "station 5 0 16",
+    "station 004 0127 0000000016",
+];
 
 /// Lengths of a store, for writes up to its end and past it.
 const STORES: [usize; 5] = [0, 1, 1_535, 1_536, BYTES_MAX];
@@ -125,6 +146,7 @@ pub fn scripts() -> Vec<String> {
         BEFORE[1].to_string(),
         AT_LIMITS.replace("{}", &most),
     ];
+    scripts.extend(FIRST_LINES.map(|line| format!("{line}\n")));
     for (before, misplaced) in BEFORE.into_iter().zip(MISPLACED) {
         let bad_lines = BAD_LINES.iter().chain(misplaced);
         scripts.extend(bad_lines.map(|line| format!("{before}{line}{AFTER}")));

@@ -2,7 +2,7 @@
 //! answer of the check occurs often for every kind.
 
 use super::datagrams::Generator;
-use crate::pdu::layout;
+use crate::pdu::{layout, RTT, RTT_REPLY};
 use crate::random::Random;
 use crate::trunk::record::{self, Kind, ACCEPTED_MAX, HEAD_SIZE};
 
@@ -73,6 +73,8 @@ impl RecordGenerator {
     fn pdu(&mut self, kind: Kind) -> Vec<u8> {
         match kind {
             Kind::Signal(words) => self.datagrams.signal_of_words(words),
+            Kind::Rtt => self.datagrams.signal_of_timing(RTT),
+            Kind::RttReply => self.datagrams.signal_of_timing(RTT_REPLY),
             Kind::Transmitter => self.datagrams.transmitter(),
             Kind::Reply => Vec::new(),
         }
@@ -97,14 +99,14 @@ impl RecordGenerator {
             3 => bytes[0] = self.random.pick(&self.kinds).byte(),
             4 => bytes[0] = bytes[0].wrapping_add(self.random.pick(&[1, u8::MAX])),
             5 => bytes[1..HEAD_SIZE].fill(u8::MAX),
-            6 => self.put_other_type(&mut bytes[HEAD_SIZE..]),
+            6 => self.put_other_signal(&mut bytes[HEAD_SIZE..]),
             7 | 8 => self.flip_bit(bytes),
             _ => self.datagrams.damage(&mut bytes[HEAD_SIZE..]),
         }
     }
 
-    /// Puts a Signal of a message type from 1 to 7 in the place of the PDU.
-    fn put_other_type(&mut self, pdu: &mut [u8]) {
+    /// Puts a Signal of any message type in the place of the PDU.
+    fn put_other_signal(&mut self, pdu: &mut [u8]) {
         if let Some(signal) = self.datagrams.signal_of_size(pdu.len()) {
             pdu.copy_from_slice(&layout::written_form(&signal));
         }

@@ -8,8 +8,8 @@ use crate::random::Random;
 use crate::trunk::near::{self, STORE_SIZE};
 use crate::trunk::record::{self, Kind, ACCEPTED_MAX, HEAD_SIZE, PDU_SIZE_MAX, REPLY_SIZE};
 use crate::trunk::replay::Replay;
-use crate::trunk::script::{Line, Outcome, BYTES_MAX};
-use crate::trunk::station::{Station, ABSENCE_LIMIT};
+use crate::trunk::script::{Line, Outcome, Settings, BYTES_MAX};
+use crate::trunk::station::{ABSENCE_LIMIT, FIRST_EXCHANGES, LAST_EXCHANGES};
 
 /// How many calls a script may have.
 const LENGTHS: [u64; 5] = [10, 50, 200, 500, 1_500];
@@ -22,7 +22,7 @@ const POKED_SHARE: u64 = 3;
 /// Of every so many calls of a poked script one is a poke.
 const POKE_SHARE: u64 = 16;
 /// Bytes next to the known kinds, and the last.
-const UNKNOWN_KINDS: [u8; 6] = [13, 15, 17, 31, 33, 255];
+const UNKNOWN_KINDS: [u8; 6] = [13, 15, 19, 31, 33, 255];
 /// One lacks the end of its last line.
 const NO_END_SHARE: u64 = 8;
 /// One names a store of a wrong length, and one a store of the right length.
@@ -79,10 +79,10 @@ struct Draft {
 impl Draft {
     /// The first lines.
     fn new(mut random: Random) -> Self {
-        let (level, net) = settings(&mut random);
-        let (station, _) = Station::new(level, net);
+        let settings = settings(&mut random);
+        let (station, _) = settings.station();
         let mut draft = Draft {
-            traffic: Traffic::new(random.next(), station.net),
+            traffic: Traffic::new(random.next(), station.level, station.net),
             records: RecordGenerator::new(random.next()),
             replay: Replay::new(),
             lines: Vec::new(),
@@ -93,7 +93,7 @@ impl Draft {
             undo: None,
             random,
         };
-        draft.add(Line::Station { level, net });
+        draft.add(Line::Station(settings));
         if !draft.has_store {
             let wrong = [0, 1, 192, STORE_SIZE - 1, STORE_SIZE + 1, BYTES_MAX];
             let bytes = draft.random.pick(&wrong);
@@ -236,7 +236,9 @@ impl Draft {
             .random
             .pick(&[next, next, next.wrapping_sub(1), next + 1]);
         let words = self.random.within(0, WORDS_MAX as u64) as usize;
-        let kind = self.random.pick(&[Kind::Transmitter, Kind::Signal(words)]);
+        let timing = self.random.pick(&[Kind::Rtt, Kind::RttReply]);
+        let kinds = [Kind::Transmitter, Kind::Signal(words), timing];
+        let kind = self.random.pick(&kinds);
         match self.random.below(8) {
             0 | 1 => self.records.of(kind, number),
             2 => self.records.of(kind, ACCEPTED_MAX),
@@ -335,15 +337,34 @@ impl Draft {
     }
 }
 
-/// A station's level and net; rarely one that it cannot have.
-fn settings(random: &mut Random) -> (u8, u8) {
-    let level = random.within(0, LAST_TSA_LEVEL.into()) as u8;
-    let net = random.within(0, LAST_NET.into()) as u8;
+/// A station's settings, level 4 more often than the others; rarely one that it cannot have.
+fn settings(random: &mut Random) -> Settings {
+    let any_level = random.within(0, LAST_TSA_LEVEL.into()) as u8;
+    let mut settings = Settings {
+        level: random.pick(&[LAST_TSA_LEVEL, any_level]),
+        net: random.within(0, LAST_NET.into()) as u8,
+        exchanges: exchanges(random),
+    };
     match random.below(32) {
-        0 => (LAST_TSA_LEVEL + 1, net),
-        1 => (level, LAST_NET + 1),
-        2 => (random.next() as u8, random.next() as u8),
-        _ => (level, net),
+        0 => settings.level = LAST_TSA_LEVEL + 1,
+        1 => settings.net = LAST_NET + 1,
+        2 => settings.exchanges = Some(random.pick(&[FIRST_EXCHANGES - 1, LAST_EXCHANGES + 1])),
+        3 => {
+            settings.level = random.next() as u8;
+            settings.net = random.next() as u8;
+            settings.exchanges = Some(random.next() as u8);
+        }
+        _ => {}
+    }
+    settings
+}
+
+/// A number of exchanges, small ones more often; now and then it is left out.
+fn exchanges(random: &mut Random) -> Option<u8> {
+    match random.below(8) {
+        0 => None,
+        1..=4 => Some(random.within(FIRST_EXCHANGES.into(), 3) as u8),
+        _ => Some(random.within(FIRST_EXCHANGES.into(), LAST_EXCHANGES.into()) as u8),
     }
 }
 

@@ -2,7 +2,7 @@
 //! occurs often.
 
 use super::datagrams::Generator;
-use crate::pdu::{self, layout, WORDS_MAX};
+use crate::pdu::{self, layout, RTT, RTT_REPLY, WORDS_MAX};
 use crate::random::Random;
 use crate::trunk::station::{COARSE_ENTRY_LEVEL, NETWORK_TIME, NO_ID, PLACES, PPLI_LABEL};
 use crate::trunk::word::Word;
@@ -11,6 +11,9 @@ use crate::trunk::word::Word;
 const FIRST_WORD: usize =
     pdu::SIGNAL_FIXED_SIZE + pdu::NETWORK_HEADER_SIZE + pdu::WORDS_HEADER_SIZE;
 
+/// Of every so many Signals one is of round-trip timing.
+const TIMING_SHARE: u64 = 3;
+
 pub struct Traffic {
     random: Random,
     datagrams: Generator,
@@ -18,13 +21,15 @@ pub struct Traffic {
     net: u8,
     keys: Vec<u64>,
     ids: [u32; 3],
-    /// The level of all units, if they have one in common.
+    /// The level of most units, if they have one in common; the others' is one below.
     level: Option<u8>,
 }
 
 impl Traffic {
-    pub fn new(seed: u64, net: u8) -> Self {
+    /// What a station of this level and net hears.
+    pub fn new(seed: u64, level: u8, net: u8) -> Self {
         let mut random = Random::new(seed);
+        let is_timed = level == COARSE_ENTRY_LEVEL && !random.one_in(4) || random.one_in(4);
         let units = random.pick(&[1, 2, 4, PLACES + 4]);
         let keys = std::iter::repeat_with(|| random.next()).take(units);
         let keys = keys.collect();
@@ -33,7 +38,7 @@ impl Traffic {
             net,
             keys,
             ids: [NO_ID, random.next() as u32, 1],
-            level: Some(COARSE_ENTRY_LEVEL).filter(|_| random.one_in(3)),
+            level: Some(COARSE_ENTRY_LEVEL).filter(|_| is_timed),
             random,
         }
     }
@@ -69,7 +74,8 @@ impl Traffic {
     fn transmitter(&mut self) -> Vec<u8> {
         let mut bytes = self.datagrams.transmitter();
         if let Some(level) = self.level {
-            layout::TSA_LEVEL.put(&mut bytes, level.into());
+            let below = u8::from(self.random.one_in(6));
+            layout::TSA_LEVEL.put(&mut bytes, (level - below).into());
         }
         let last_without = u64::from(pdu::LAST_LEVEL_WITHOUT_ID);
         if layout::TSA_LEVEL.get(&bytes) > Some(last_without) {
@@ -83,11 +89,26 @@ impl Traffic {
 
     /// Of any unit; most are on the station's net.
     fn signal(&mut self) -> Vec<u8> {
-        let words = self.random.within(0, WORDS_MAX as u64);
-        let mut bytes = self.datagrams.signal_of_words(words as usize);
+        let mut bytes = if self.random.one_in(TIMING_SHARE) {
+            self.timing()
+        } else {
+            self.words()
+        };
         if !self.random.one_in(12) {
             layout::NET.put(&mut bytes, self.net.into());
         }
+        bytes
+    }
+
+    /// Most are of type 2, which may count.
+    fn timing(&mut self) -> Vec<u8> {
+        let message_type = self.random.pick(&[RTT, RTT_REPLY, RTT_REPLY]);
+        self.datagrams.signal_of_timing(message_type)
+    }
+
+    fn words(&mut self) -> Vec<u8> {
+        let words = self.random.within(0, WORDS_MAX as u64);
+        let mut bytes = self.datagrams.signal_of_words(words as usize);
         if let Some(word) = bytes[FIRST_WORD..].first_chunk_mut() {
             self.first_word().put(word);
         }

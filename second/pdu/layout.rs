@@ -1,8 +1,8 @@
 //! Places by byte number (document 01, "Bytes 0 to 19, both PDUs", "Transmitter, 112 bytes" and
-//! "Signal"): the fields that have a rule, the padding, and the written form that comes of it.
-//! The reader and the writer do not use them, so that each is a check on the other.
+//! "Signal"; document 02, R-1): the fields that have a rule, the padding, and the written form that
+//! comes of it. The reader and the writer do not use them, so that each is a check on the other.
 
-use super::{SIGNAL_FIXED_SIZE, TRANSMITTER_TYPE};
+use super::{RTT, RTT_REPLY, SIGNAL_FIXED_SIZE, TRANSMITTER_TYPE};
 use std::ops::Range;
 
 /// A field: its first byte, and how many bytes it has.
@@ -69,6 +69,11 @@ pub const EPOCH: Field = field(40, 1);
 /// Bits 17 to 23 of the slot ID are padding.
 pub const SLOT_ID_PADDING: u64 = 0x00FE_0000;
 
+/// The first two bytes of a body; in one of round-trip timing byte 52 and the upper five bits of
+/// byte 53 are padding.
+pub const BODY_START: Field = field(52, 2);
+pub const TIMING_PADDING: u64 = 0xFFF8;
+
 const START_PADDING: Field = field(10, 2);
 const TRANSMITTER_PADDING: [Field; 3] = [START_PADDING, field(30, 2), field(101, 3)];
 const SIGNAL_PADDING: [Field; 2] = [START_PADDING, field(38, 2)];
@@ -85,17 +90,27 @@ pub fn written_form(datagram: &[u8]) -> Vec<u8> {
     form
 }
 
+/// The message type is one of round-trip timing.
+pub fn is_timing(signal: &[u8]) -> bool {
+    let types = [RTT, RTT_REPLY].map(|message_type| Some(u64::from(message_type)));
+    types.contains(&MESSAGE_TYPE.get(signal))
+}
+
 fn clear(bytes: &mut [u8], padding: &[Field]) {
     for field in padding {
         field.put(bytes, 0);
     }
 }
 
-/// Clears the slot ID's padding and the fill.
+/// Clears the slot ID's padding, that inside a body, and the fill.
 fn clear_signal(bytes: &mut [u8]) {
     let known = "a taken Signal has its fields";
     let slot_id = SLOT_ID.get(bytes).expect(known);
     SLOT_ID.put(bytes, slot_id & !SLOT_ID_PADDING);
+    if is_timing(bytes) {
+        let body_start = BODY_START.get(bytes).expect(known);
+        BODY_START.put(bytes, body_start & !TIMING_PADDING);
+    }
     let data_bytes = DATA_LENGTH.get(bytes).expect(known) as usize / 8;
     bytes[SIGNAL_FIXED_SIZE + data_bytes..].fill(0);
 }

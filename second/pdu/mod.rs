@@ -1,10 +1,12 @@
-//! Link 16 PDUs as document 01 has them: their records, the numbers of its rules, and the rules
-//! that reading and writing share (inlined by force as the reader is, see `read`).
+//! Link 16 PDUs as document 01 has them, with round-trip timing by document 02, R-1: their records,
+//! the numbers of its rules, and the rules that reading and writing share (inlined by force as the
+//! reader is, see `read`).
 
 pub mod layout;
 pub mod read;
 pub mod write;
 
+use crate::bytes::Source;
 use crate::numbers::{require, Refusal};
 
 // "Bytes 0 to 19, both PDUs".
@@ -51,6 +53,13 @@ pub const WORD_SIZE: usize = 10;
 pub const WORDS_MAX: usize = 12;
 pub const BODY_MAX: usize = 256;
 const FILL_MULTIPLE: usize = 4;
+
+// Document 02, R-1: the message types of round-trip timing. Their body is one number of 48 bits, of
+// which bits 0 to 34 are the field and bits 35 to 47 padding.
+pub const RTT: u8 = 1;
+pub const RTT_REPLY: u8 = 2;
+pub const TIMING_SIZE: usize = 6;
+const TIMING_BITS: u32 = 35;
 
 /// Bytes 0 to 19 without type, family and length.
 #[derive(Clone, Copy, Debug, Default, PartialEq, Eq)]
@@ -179,6 +188,13 @@ pub const fn words_size(words: usize) -> usize {
     WORDS_HEADER_SIZE + WORD_SIZE * words
 }
 
+/// The field in a body of round-trip timing, which has its right size.
+pub fn timing(body: &[u8]) -> u64 {
+    let mut source = Source::new(body);
+    let number = u64::from(source.u16()) << 32 | u64::from(source.u32());
+    number & ((1 << TIMING_BITS) - 1)
+}
+
 /// The size of a Signal with this many data bytes.
 pub fn signal_size(data_bytes: usize) -> usize {
     (SIGNAL_FIXED_SIZE + data_bytes).next_multiple_of(FILL_MULTIPLE)
@@ -232,9 +248,15 @@ pub fn check_network_header(network: &NetworkHeader) -> Result<(), Refusal> {
 /// Refusals 14 and 15.
 #[inline(always)]
 pub fn check_body(message_type: u8, size: usize) -> Result<(), Refusal> {
-    if message_type != 0 {
-        return require(size <= BODY_MAX, Refusal::BodyLimit);
+    match message_type {
+        0 => check_words(size),
+        RTT | RTT_REPLY => require(size == TIMING_SIZE, Refusal::BodySize),
+        _ => require(size <= BODY_MAX, Refusal::BodyLimit),
     }
+}
+
+#[inline(always)]
+fn check_words(size: usize) -> Result<(), Refusal> {
     let words = size
         .checked_sub(WORDS_HEADER_SIZE)
         .filter(|words| words % WORD_SIZE == 0)

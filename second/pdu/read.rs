@@ -1,4 +1,4 @@
-//! The reader, from document 01. Fields are taken in the order of their bytes, refusals are given
+//! The reader, from document 01, with document 02, R-1. Fields are taken in the order of their bytes, refusals are given
 //! in the order of "The numbers".
 //!
 //! Its functions are inlined by force: where the answer alone is asked for, no record is built,

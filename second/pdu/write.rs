@@ -1,4 +1,4 @@
-//! The writer, from document 01. Fields are put in the order of their bytes.
+//! The writer, from document 01, with document 02, R-1. Fields are put in the order of their bytes.
 
 use super::*;
 use crate::bytes::Sink;
@@ -98,8 +98,18 @@ fn write_signal(signal: &Signal, body: &[u8], size: usize, sink: &mut Sink) {
         .u16(8 * data_bytes as u16)
         .u16(signal.samples);
     write_network_header(&signal.network, sink);
-    sink.bytes(body)
-        .zeros(size - SIGNAL_FIXED_SIZE - data_bytes);
+    match signal.network.message_type {
+        RTT | RTT_REPLY => write_timing(timing(body), sink),
+        _ => {
+            sink.bytes(body);
+        }
+    }
+    sink.zeros(size - SIGNAL_FIXED_SIZE - data_bytes);
+}
+
+/// A body of round-trip timing: its padding, then the field's 35 bits.
+fn write_timing(field: u64, sink: &mut Sink) {
+    sink.u16((field >> 32) as u16).u32(field as u32);
 }
 
 fn write_network_header(network: &NetworkHeader, sink: &mut Sink) {

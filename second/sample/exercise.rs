@@ -1,13 +1,14 @@
 //! A sample exercise as a script for the replay program: a few units' traffic, offered at the near
-//! end and repeated over a line that loses and repeats records, until all is acknowledged.
+//! end and repeated over a line that loses and repeats records, until all is acknowledged. The far
+//! station is of level 4: it becomes Coarse by network time, and Fine by timing messages.
 
 use super::units;
-use crate::pdu::Modulation;
+use crate::pdu::{Modulation, RTT, RTT_REPLY, TIMING_SIZE};
 use crate::random::Random;
 use crate::trunk::near::ROWS;
 use crate::trunk::record::{HEAD_SIZE, PDU_SIZE_MAX, REPLY_SIZE};
 use crate::trunk::replay::Replay;
-use crate::trunk::script::{Line, Outcome};
+use crate::trunk::script::{Line, Outcome, Settings};
 use crate::trunk::station::{NETWORK_TIME, PPLI_LABEL};
 use crate::trunk::word::Word;
 
@@ -19,8 +20,9 @@ const TWICE_SHARE: u64 = 4;
 const OFFERS: usize = 2;
 
 /// The far end's station.
-const LEVEL: u8 = 3;
+const LEVEL: u8 = 4;
 const NET: u8 = 5;
+const EXCHANGES: u8 = 2;
 /// The synchronization ID of the station's net, and of another.
 const ID: u32 = 70;
 const OTHER_ID: u32 = 71;
@@ -35,11 +37,12 @@ pub fn script() -> String {
         replay: Replay::new(),
         script: String::new(),
     };
-    let station = Line::Station {
+    let station = Settings {
         level: LEVEL,
         net: NET,
+        exchanges: Some(EXCHANGES),
     };
-    exercise.call(&station);
+    exercise.call(&Line::Station(station));
     exercise.run(&traffic());
     exercise.script
 }
@@ -58,9 +61,13 @@ fn traffic() -> Vec<Vec<u8>> {
     };
     let signal =
         |unit, (label, sublabel)| units::signal(unit, NET, &[Word::initial(label, sublabel)]);
+    let timing = |unit, message_type| units::signal_of(unit, NET, message_type, &[0; TIMING_SIZE]);
     vec![
         transmitter(1, ID),
         signal(1, NETWORK_TIME),
+        timing(1, RTT),
+        timing(1, RTT_REPLY),
+        timing(1, RTT_REPLY),
         signal(1, AIR_POSITION),
         signal(1, AIR_TRACK),
         signal(2, AIR_POSITION),

@@ -1,7 +1,7 @@
 //! Tells a newcomer what an output of the replay program says.
 
 use crate::pdu::read::read;
-use crate::pdu::{Header, Pdu};
+use crate::pdu::{Header, Pdu, Signal, RTT, RTT_REPLY};
 use crate::trunk::record::Record;
 use crate::trunk::script::Outcome;
 use crate::trunk::station::{NETWORK_TIME, PPLI_LABEL};
@@ -57,6 +57,9 @@ impl Story {
             ["state", _, _, id, state, clock] => self.end.push(format!(
                 "The station is {state} at second {clock}, its synchronization ID is {id}."
             )),
+            ["timing", exchanges, count] => self.end.push(format!(
+                "Of the {exchanges} timing messages that make it fine it counted {count}."
+            )),
             ["unit", ..] => {}
             ["counts", accepted, acknowledged, delivered] => self.end.push(format!(
                 "Offered {accepted}, put out {delivered}, repeated {}, acknowledged {acknowledged}.",
@@ -81,10 +84,10 @@ impl Story {
             self.repeats,
             self.early
         );
-        let [counts, state] = &self.end[..] else {
+        let [counts, state, timing] = &self.end[..] else {
             return None;
         };
-        Some(text + &format!("{state}\n{counts}\n"))
+        Some(text + &format!("{state}\n{timing}\n{counts}\n"))
     }
 }
 
@@ -92,7 +95,7 @@ fn describe(pdu: &[u8]) -> Option<String> {
     let pdu = read(pdu).ok()?;
     let what = match &pdu {
         Pdu::Transmitter(_) => "Transmitter".to_string(),
-        Pdu::Signal(_, body) => message(Word::first(body)),
+        Pdu::Signal(signal, body) => message(signal, body),
     };
     let Header {
         site,
@@ -106,8 +109,17 @@ fn describe(pdu: &[u8]) -> Option<String> {
     ))
 }
 
-/// A message by its first word.
-fn message(first: Option<Word>) -> String {
+fn message(signal: &Signal, body: &[u8]) -> String {
+    match signal.network.message_type {
+        0 => words(Word::first(body)),
+        RTT => "RTT".to_string(),
+        RTT_REPLY => "RTT reply".to_string(),
+        other => format!("message type {other}"),
+    }
+}
+
+/// A message of words, by the first of them.
+fn words(first: Option<Word>) -> String {
     let Some(Word {
         label, sublabel, ..
     }) = first
@@ -124,7 +136,7 @@ fn message(first: Option<Word>) -> String {
     format!("J{label}.{sublabel}{meaning}")
 }
 
-/// The station's answers, in document 01's order.
+/// The station's answers, by their numbers.
 fn meaning(answer: u32) -> Option<&'static str> {
     Some(match answer {
         30 => "no place for another unit",
@@ -135,9 +147,10 @@ fn meaning(answer: u32) -> Option<&'static str> {
         35 => "sender not in, or station not fine",
         40 => "new unit",
         41 => "known unit",
-        42 => "station is in the net",
+        42 => "network time heard",
         43 => "unit is in",
         44 => "passed",
+        47 => "timing message counted",
         _ => return None,
     })
 }

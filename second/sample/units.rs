@@ -28,15 +28,21 @@ pub fn signal(unit: u16, net: u8, words: &[Word]) -> Vec<u8> {
     for (word, bytes) in words.iter().zip(bodies) {
         word.put(bytes);
     }
+    signal_of(unit, net, 0, &body)
+}
+
+/// A Signal of any message type with this body.
+pub fn signal_of(unit: u16, net: u8, message_type: u8, body: &[u8]) -> Vec<u8> {
     let signal = Signal {
         header: header(unit),
         network: NetworkHeader {
             net,
+            message_type,
             ..NetworkHeader::default()
         },
         ..Signal::default()
     };
-    written(&Pdu::Signal(signal, &body))
+    written(&Pdu::Signal(signal, body))
 }
 
 /// All units are of one site, and each has one radio.

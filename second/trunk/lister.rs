@@ -23,7 +23,7 @@ pub fn list(bytes: &[u8]) -> String {
 
 fn describe(record: &Record) -> String {
     let kind = match record.kind {
-        Kind::Signal(_) => "signal",
+        Kind::Signal(_) | Kind::Rtt | Kind::RttReply => "signal",
         Kind::Transmitter => "transmitter",
         Kind::Reply => "ack",
     };

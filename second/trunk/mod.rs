@@ -1,5 +1,5 @@
-//! The station, the trunk's records and its two ends, from document 01; and the two programs that
-//! show them, the lister and replay.
+//! The station, the trunk's records and its two ends, from documents 01 and 02; and the two programs
+//! that show them, the lister and replay.
 
 pub mod far;
 pub mod lister;

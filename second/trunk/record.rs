@@ -1,5 +1,5 @@
-//! Trunk records (document 01, "The trunk"): one byte of kind, a 4-byte number, then the PDU as
-//! the writer gives it. A reply has the number alone.
+//! Trunk records (document 01, "The trunk"; document 02, R-1): one byte of kind, a 4-byte number,
+//! then the PDU as the writer gives it. A reply has the number alone.
 
 use crate::bytes::{Sink, Source};
 use crate::numbers::{require, Refusal};
@@ -8,6 +8,8 @@ use crate::pdu::write::write;
 use crate::pdu::*;
 
 const TRANSMITTER_KIND: u8 = 16;
+const RTT_KIND: u8 = 17;
+const RTT_REPLY_KIND: u8 = 18;
 const REPLY_KIND: u8 = 32;
 /// The kind and the number.
 pub const HEAD_SIZE: usize = 5;
@@ -22,14 +24,16 @@ pub enum Kind {
     /// A Signal of message type 0 with so many words.
     Signal(usize),
     Transmitter,
+    /// A Signal of message type 1, and one of type 2.
+    Rtt,
+    RttReply,
     Reply,
 }
 
 impl Kind {
     pub fn all() -> impl Iterator<Item = Kind> {
-        (0..=WORDS_MAX)
-            .map(Kind::Signal)
-            .chain([Kind::Transmitter, Kind::Reply])
+        let others = [Kind::Transmitter, Kind::Rtt, Kind::RttReply, Kind::Reply];
+        (0..=WORDS_MAX).map(Kind::Signal).chain(others)
     }
 
     pub fn from_byte(byte: u8) -> Option<Self> {
@@ -40,6 +44,8 @@ impl Kind {
         match self {
             Kind::Signal(words) => words as u8,
             Kind::Transmitter => TRANSMITTER_KIND,
+            Kind::Rtt => RTT_KIND,
+            Kind::RttReply => RTT_REPLY_KIND,
             Kind::Reply => REPLY_KIND,
         }
     }
@@ -49,19 +55,22 @@ impl Kind {
         let pdu_size = match self {
             Kind::Signal(words) => signal_size(NETWORK_HEADER_SIZE + words_size(words)),
             Kind::Transmitter => TRANSMITTER_SIZE,
+            Kind::Rtt | Kind::RttReply => signal_size(NETWORK_HEADER_SIZE + TIMING_SIZE),
             Kind::Reply => 0,
         };
         HEAD_SIZE + pdu_size
     }
 
-    /// The kind that carries a PDU; message types 1 to 7 have none.
+    /// The kind that carries a PDU; message types 3 to 7 have none.
     pub fn carrying(pdu: &Pdu) -> Option<Self> {
-        match pdu {
-            Pdu::Transmitter(_) => Some(Kind::Transmitter),
-            Pdu::Signal(signal, body) if signal.network.message_type == 0 => {
-                Some(Kind::Signal((body.len() - WORDS_HEADER_SIZE) / WORD_SIZE))
-            }
-            Pdu::Signal(..) => None,
+        let Pdu::Signal(signal, body) = pdu else {
+            return Some(Kind::Transmitter);
+        };
+        match signal.network.message_type {
+            0 => Some(Kind::Signal((body.len() - WORDS_HEADER_SIZE) / WORD_SIZE)),
+            RTT => Some(Kind::Rtt),
+            RTT_REPLY => Some(Kind::RttReply),
+            _ => None,
         }
     }
 }

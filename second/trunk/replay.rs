@@ -42,7 +42,7 @@ pub fn run(input: &[u8]) -> String {
 
 impl Replay {
     pub fn new() -> Self {
-        let (station, _) = Station::new(0, 0);
+        let (station, _) = Station::new(0, 0, 1);
         Replay {
             near: NearEnd::default(),
             far: FarEnd::new(station),
@@ -52,8 +52,8 @@ impl Replay {
 
     pub fn call(&mut self, line: &Line) -> Outcome {
         match line {
-            Line::Station { level, net } => {
-                let (station, answer) = Station::new(*level, *net);
+            Line::Station(settings) => {
+                let (station, answer) = settings.station();
                 self.far = FarEnd::new(station);
                 Outcome::Station(numbers::number(answer))
             }
@@ -123,6 +123,8 @@ impl Display for End<'_> {
         let Station {
             level,
             net,
+            exchanges,
+            count,
             id,
             state,
             clock,
@@ -132,6 +134,7 @@ impl Display for End<'_> {
         writeln!(f, "counts {accepted} {acknowledged} {}", self.delivered)?;
         let state = state_word(*state);
         writeln!(f, "state {level} {net} {id} {state} {clock}")?;
+        writeln!(f, "timing {exchanges} {count}")?;
         for (place, unit) in places.iter().enumerate() {
             if let Some(unit) = unit {
                 let (key, is_in) = (unit.key, u8::from(unit.is_in));

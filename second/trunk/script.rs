@@ -2,20 +2,45 @@
 //! outcome in the line that it prints for it.
 
 use super::near::STORE_SIZE;
+use super::station::Station;
 use crate::hex;
+use crate::numbers::Refusal;
 use std::fmt::{self, Display, Formatter};
 
 /// The longest datagram, record, store or output that a line may name.
 pub const BYTES_MAX: usize = 4_096;
 
+/// The numbers of a `station` line.
+#[derive(Clone, Copy, Debug, PartialEq, Eq)]
+pub struct Settings {
+    pub level: u8,
+    pub net: u8,
+    /// One where it is left out.
+    pub exchanges: Option<u8>,
+}
+
+impl Settings {
+    /// The station that they make.
+    pub fn station(self) -> (Station, Result<(), Refusal>) {
+        Station::new(self.level, self.net, self.exchanges.unwrap_or(1))
+    }
+}
+
+impl Display for Settings {
+    fn fmt(&self, f: &mut Formatter) -> fmt::Result {
+        write!(f, "{} {}", self.level, self.net)?;
+        match self.exchanges {
+            Some(exchanges) => write!(f, " {exchanges}"),
+            None => Ok(()),
+        }
+    }
+}
+
 /// A line to read.
 #[derive(Clone, Debug, PartialEq, Eq)]
 pub enum Line {
     /// The first line: the settings of the far end's station.
-    Station {
-        level: u8,
-        net: u8,
-    },
+    Station(Settings),
     /// The second line, if it is there: the length of the near end's store.
     Store(usize),
     /// Somebody else writes these bytes into the store.
@@ -42,10 +67,16 @@ impl Line {
     fn parse(text: &str) -> Option<Self> {
         let words: Vec<&str> = text.split(' ').collect();
         Some(match words[..] {
-            ["station", level, net] => Line::Station {
+            ["station", level, net] => Line::Station(Settings {
                 level: number(level)?,
                 net: number(net)?,
-            },
+                exchanges: None,
+            }),
+            ["station", level, net, exchanges] => Line::Station(Settings {
+                level: number(level)?,
+                net: number(net)?,
+                exchanges: Some(number(exchanges)?),
+            }),
             ["store", bytes] => Line::Store(size(bytes)?),
             ["poke", offset, poked] => Line::Poke {
                 offset: size(offset)?,
@@ -71,7 +102,7 @@ impl Line {
     /// the store's end.
     fn may_stand_after(&self, lines: &[Line]) -> bool {
         match self {
-            Line::Station { .. } => lines.is_empty(),
+            Line::Station(_) => lines.is_empty(),
             Line::Store(_) => lines.len() == 1,
             Line::Poke { offset, bytes } => {
                 !lines.is_empty() && offset + bytes.len() <= store_size(lines)
@@ -123,7 +154,7 @@ pub fn bytes(text: &str) -> Option<Vec<u8>> {
 impl Display for Line {
     fn fmt(&self, f: &mut Formatter) -> fmt::Result {
         match self {
-            Line::Station { level, net } => write!(f, "station {level} {net}"),
+            Line::Station(settings) => write!(f, "station {settings}"),
             Line::Store(bytes) => write!(f, "store {bytes}"),
             Line::Poke { offset, bytes } => write!(f, "poke {offset} {}", hex::encode(bytes)),
             Line::Offer(datagram) => write!(f, "offer {}", hex::encode(datagram)),

@@ -1,16 +1,20 @@
-//! The station (document 01, "The station"): the net-entry state of one station, which hears
-//! datagrams and the clock.
+//! The station (document 01, "The station"; document 02, R-1): the net-entry state of one station,
+//! which hears datagrams and the clock.
 
 use super::word::Word;
 use crate::numbers::{require, Refusal};
 use crate::pdu::read::read;
-use crate::pdu::{Modulation, Pdu, Signal, Transmitter, FINE, LAST_NET, LAST_TSA_LEVEL};
+use crate::pdu::{Modulation, Pdu, Signal, Transmitter};
+use crate::pdu::{FINE, LAST_NET, LAST_TSA_LEVEL, RTT, RTT_REPLY};
 
 pub const PLACES: usize = 16;
 /// A unit is removed after so many seconds without a PPLI.
 pub const ABSENCE_LIMIT: u64 = 60;
-/// A station and a sender of this level leave the station Coarse.
+/// A station and a sender of this level leave the station Coarse, and count timing messages.
 pub const COARSE_ENTRY_LEVEL: u8 = 4;
+/// A station is made with a number of exchanges from the first to the last of these.
+pub const FIRST_EXCHANGES: u8 = 1;
+pub const LAST_EXCHANGES: u8 = 16;
 /// A synchronization ID that matches all.
 pub const NO_ID: u32 = 0;
 
@@ -47,6 +51,9 @@ impl Unit {
 pub struct Station {
     pub level: u8,
     pub net: u8,
+    /// So many timing messages make a Coarse station Fine; so many were counted.
+    pub exchanges: u8,
+    pub count: u8,
     pub id: u32,
     pub state: State,
     pub clock: u64,
@@ -63,6 +70,7 @@ pub enum Event {
     Position = 43,
     Passed = 44,
     Clock = 46,
+    Counted = 47,
 }
 
 /// A call's answer. A refusal, the reader's or 30 to 36, changes nothing.
@@ -75,20 +83,28 @@ pub fn number(answer: Answer) -> u32 {
     }
 }
 
-/// What a Signal is to the station, by the first word of type 0 if it is initial.
+/// What a Signal is to the station, by its message type, and by the first word of type 0 if it is
+/// initial.
 enum Message {
     NetworkTime,
     Position,
+    Rtt,
+    RttReply,
     Other,
 }
 
 impl Message {
     fn of(signal: &Signal, body: &[u8]) -> Self {
-        let first = Some(body)
-            .filter(|_| signal.network.message_type == 0)
-            .and_then(Word::first)
-            .filter(|word| word.is_initial());
-        match first {
+        match signal.network.message_type {
+            0 => Message::of_words(body),
+            RTT => Message::Rtt,
+            RTT_REPLY => Message::RttReply,
+            _ => Message::Other,
+        }
+    }
+
+    fn of_words(body: &[u8]) -> Self {
+        match Word::first(body).filter(|word| word.is_initial()) {
             Some(word) if (word.label, word.sublabel) == NETWORK_TIME => Message::NetworkTime,
             Some(word) if word.label == PPLI_LABEL => Message::Position,
             _ => Message::Other,
@@ -97,13 +113,18 @@ impl Message {
 }
 
 impl Station {
-    /// A fresh station. After refusal 37 it is one of level 0 and net 0.
-    pub fn new(level: u8, net: u8) -> (Self, Result<(), Refusal>) {
-        let holds = level <= LAST_TSA_LEVEL && net <= LAST_NET;
-        let (level, net) = if holds { (level, net) } else { (0, 0) };
+    /// A fresh station. After refusal 37 it is one of level 0, net 0 and one exchange.
+    pub fn new(level: u8, net: u8, exchanges: u8) -> (Self, Result<(), Refusal>) {
+        let holds = level <= LAST_TSA_LEVEL
+            && net <= LAST_NET
+            && (FIRST_EXCHANGES..=LAST_EXCHANGES).contains(&exchanges);
+        let settings = (level, net, exchanges);
+        let (level, net, exchanges) = if holds { settings } else { (0, 0, 1) };
         let station = Station {
             level,
             net,
+            exchanges,
+            count: 0,
             id: NO_ID,
             state: State::Waiting,
             clock: 0,
@@ -156,6 +177,12 @@ impl Station {
                 unit.last = self.clock;
                 Ok(Event::Position)
             }
+            Message::Rtt => Ok(Event::Passed),
+            Message::RttReply => {
+                require(unit.is_fine(), Refusal::NotFine)?;
+                let level = unit.level;
+                Ok(self.count_from(level))
+            }
             Message::Other => {
                 let passes = unit.is_in && self.state == State::Fine;
                 require(passes, Refusal::NotIn)?;
@@ -169,12 +196,31 @@ impl Station {
         if self.id == NO_ID {
             self.id = id;
         }
-        let coarse = self.level == COARSE_ENTRY_LEVEL && level == COARSE_ENTRY_LEVEL;
-        self.state = match self.state {
-            State::Waiting if coarse => State::Coarse,
-            state if coarse => state,
-            _ => State::Fine,
-        };
+        match self.state {
+            _ if !self.has_coarse_entry(level) => self.state = State::Fine,
+            State::Waiting => {
+                self.state = State::Coarse;
+                self.count = 0;
+            }
+            State::Coarse | State::Fine => {}
+        }
+    }
+
+    /// A message of type 2 from a fine sender of this level: it counts, or is passed.
+    fn count_from(&mut self, level: u8) -> Event {
+        if self.state != State::Coarse || !self.has_coarse_entry(level) {
+            return Event::Passed;
+        }
+        self.count += 1;
+        if self.count == self.exchanges {
+            self.state = State::Fine;
+        }
+        Event::Counted
+    }
+
+    /// The station's level and a sender's are both 4.
+    fn has_coarse_entry(&self, level: u8) -> bool {
+        self.level == COARSE_ENTRY_LEVEL && level == COARSE_ENTRY_LEVEL
     }
 
     pub fn set_clock(&mut self, second: u64) -> Answer {

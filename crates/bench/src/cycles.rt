@@ -30,7 +30,7 @@ struct Ends {
 }
 
 fn fresh() -> Ends {
-    let made = far_end::new(0, 0);
+    let made = far_end::new(0, 0, 1);
     let far = made.far;
     Ends {
         near: near_end::new(),
@@ -156,6 +156,8 @@ fn put_datagram(kind: u64, out: &mut [u8]) -> usize {
     match kinds::load(kind as u8) {
         Load::Words(n) => datagrams::put_ppli(UNIT, n as usize, out),
         Load::Transmitter => datagrams::put_transmitter(UNIT, out),
+        Load::Interrogation => 0,
+        Load::TimingReply => 0,
         Load::Nothing => 0,
         Load::Unknown => 0,
     }

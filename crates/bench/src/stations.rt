@@ -21,7 +21,7 @@ fn joined(station: Station, unit: u16) -> Station {
 
 // A station that holds units 1 to `units`.
 fn with_units(units: u16) -> Station {
-    let made = station::new(0, 0);
+    let made = station::new(0, 0, 1);
     let mut station = made.station;
     let mut unit = 0;
     while unit < units {

@@ -7,7 +7,7 @@ use lib.Dec.{eqb}
 use Rattle.wire.specs.Bytes.{big}
 use Rattle.pdu.specs.Forms.{sizeOf}
 use Rattle.pdu.specs.Reading.{reading, numberOf}
-use Rattle.station.specs.Units.{fresh, unitsHeld}
+use Rattle.station.specs.Units.{settingsOf, fresh, unitsHeld}
 use Rattle.station.specs.Runs.{datagram, time, after}
 use Rattle.pdu.specs.declared.Reading.{Reading}
 use Rattle.pdu.specs.declared.Reading.the-variants.{Refused, Transmitter, Signal}
@@ -57,7 +57,7 @@ abbrev pub holds : Case → Bool
 holds (answers d number size) = eqb (numberOf (reading d)) number && eqb (sizeOf (reading d)) size
 holds (slot-of d epoch slot) = slotIs (reading d) epoch slot
 holds (held-at last t count) =
-    eqb (unitsHeld (after (fresh 0 0) (time last ∷ datagram aTransmitter ∷ time t ∷ []))) count
+    eqb (unitsHeld (after (fresh (settingsOf 0 0 1)) (time last ∷ datagram aTransmitter ∷ time t ∷ []))) count
 
 -- whether every row holds
 abbrev pub all-hold : List Case → Bool

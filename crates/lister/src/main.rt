@@ -100,6 +100,8 @@ fn print_refused(index: u64, n: u8) -> bool {
 fn print_load(index: u64, load: Load, number: u32, size: u16) -> bool {
     match load {
         Load::Words(_) => print_taken(index, b" signal ", number, size),
+        Load::Interrogation => print_taken(index, b" signal ", number, size),
+        Load::TimingReply => print_taken(index, b" signal ", number, size),
         Load::Transmitter => print_taken(index, b" transmitter ", number, size),
         Load::Nothing => print_taken(index, b" ack ", number, size),
         Load::Unknown => true,

@@ -18,11 +18,12 @@ use Rattle.wire.proofs.RuleLaws.{Agree, done, _then_, agree-append, verdict}
 use Rattle.pdu.specs.Numbers
 use Rattle.pdu.specs.Tables.{filled, signalSize}
 use Rattle.pdu.specs.Words.{wordsIn, wholeWords}
-use Rattle.pdu.specs.Rules.{wrongVersion, isPrimary, wrongSync, wrongSecurity, accessRules, slotRules, networkRules, bodyRules, innerRules}
+use Rattle.pdu.specs.Rules.{wrongVersion, isPrimary, wrongSync, wrongSecurity, accessRules, slotRules, networkRules, wrongBody, bodyRules}
+use Rattle.pdu.specs.Rules.{innerRules}
 use Rattle.pdu.specs.Reading.{transmitterOf, signalOf, bodySize, content, wrongType, wrongLength, wrongFixed, wrongBits, startRules}
 use Rattle.pdu.specs.Reading.{transmitterLayout, signalLayout, readingRules}
 use Rattle.pdu.specs.Writing.{recordRules, writingRules}
-use Rattle.pdu.specs.Plain.{FixedRule, SyncRule, FilledTo, SecurityRule, epochOf, plainStart, plainTransmitterLayout}
+use Rattle.pdu.specs.Plain.{FixedRule, SyncRule, FilledTo, SecurityRule, WordsRule, TimingRule, epochOf, plainStart, plainTransmitterLayout}
 use Rattle.pdu.specs.Plain.{plainTransmitter, plainSignalLayout, plainNetwork, plainInner, plainSignal, plainTransmitterRecord}
 use Rattle.pdu.specs.Plain.{plainSignalRecord, plainTransmitterWriting, plainSignalWriting}
 use Rattle.pdu.specs.declared.Sync.{Sync}
@@ -91,6 +92,16 @@ words-say n = negated _ (Iff·trans (equal _ _) (λ e. (wordsIn n, e), λ h. who
     whole : (words : ℕ) → n ≡ 6 + 10 * words → n ≡ Numbers.bodyHeader + Numbers.wordBytes * wordsIn n
     whole words e = omega arith
 
+-- 14: by the message type
+body-says : (type n : ℕ) → (wrongBody type n ≡ false) ↔ (WordsRule type n × TimingRule type n)
+body-says type n =
+    Iff·trans (either-way _ _ _ (equal type _) (λ zero-type. words-say n) (if-so _ _ (one-of _ _ (equal type _) (equal type _)) (negated _ (equal n _))))
+    (λ h. (h .0, λ timing. h .1 (other timing) timing), λ h. (h .0, λ some timing. h .1 timing))
+  where
+    other : (type ≡ 1) ⊎ (type ≡ 2) → type ≢ 0
+    other (inl e) z = omega arith
+    other (inr e) z = omega arith
+
 -- at most twelve words, where the body is a header and whole words
 few-say : (n words : ℕ) → n ≡ 6 + 10 * words → (ltb Numbers.mostWords (wordsIn n) ≡ false) ↔ (n ≤ 126)
 few-say n words e = Iff·trans (not-below _ _) (λ (h : wordsIn n ≤ Numbers.mostWords). omega arith, λ h. omega arith)
@@ -119,8 +130,8 @@ inner-agrees s n =
     then λ type. not-below _ _
     then λ slot. not-below _ _
     then λ epoch. if-so _ _ (equal _ _) (not-below _ _)
-    then λ last. if-so _ _ (equal _ _) (words-say _)
-    then λ words. either-way _ _ _ (equal _ _) (λ zero-type. few-say _ (words zero-type .0) (words zero-type .1)) (not-below _ _)
+    then λ last. body-says _ _
+    then λ body. either-way _ _ _ (equal _ _) (λ zero-type. few-say _ (body .0 zero-type .0) (body .0 zero-type .1)) (not-below _ _)
     then λ few. done
 
 -- what byte 2 says

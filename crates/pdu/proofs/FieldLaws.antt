@@ -4,7 +4,7 @@
 use Prim.Native.Nat.{ℕ, _*_, _+_, _/_, _%_, _^_}
 use mathlib.Core.Path.{_≡_, refl, sym, ap, subst, _∙_}
 use mathlib.Core.Bool.{Bool, true, false}
-use mathlib.Core.List.{List}
+use mathlib.Core.List.{List, [], _∷_}
 use lib.ListN.{length}
 use lib.Dec.{ltb}
 use borrow.Author.Tests.{lt-ltb, le-ltb, ltb-true, ltb-false}
@@ -13,8 +13,9 @@ use native.Mathlib.Omega.{arith}
 use Rattle.wire.specs.Bytes.{num}
 use Rattle.pdu.specs.Forms.{bodyIn}
 use Rattle.pdu.specs.Reading.{headerOf, transmitterOf, signalOf, bodyOf, reading}
+use Rattle.pdu.specs.Timing.{timingAt, timingSays}
 use Rattle.pdu.specs.Words.{wordsIn, wordAt, wordSays}
-use Rattle.pdu.specs.Fields.{HeaderFields, TransmitterFields, SignalFields, WordParts, plainWord}
+use Rattle.pdu.specs.Fields.{HeaderFields, TransmitterFields, SignalFields, WordParts, plainWord, plainTiming}
 use Rattle.pdu.specs.declared.Word.{Word}
 use Rattle.pdu.specs.declared.Word.the-variants.{Here}
 use Rattle.pdu.specs.declared.Transmitter.{Transmitter}
@@ -101,3 +102,12 @@ word-says body i = by (ltb (length body) (16 + 10 * i)) refl
     by : (b : Bool) → ltb (length body) (16 + 10 * i) ≡ b → wordSays (wordAt body i) ≡ plainWord body i
     by true t = ap wordSays (word-parts body i .absent (ltb-true _ _ t)) ∙ rw t refl
     by false t = ap wordSays (word-parts body i .here (ltb-false _ _ t)) ∙ rw t refl
+
+-- the field of round-trip timing in every body
+pub timing-says : (body : List ℕ) → timingSays (timingAt body) ≡ plainTiming body
+unfolding timingAt
+timing-says body = by (ltb (length body) 6) refl
+  where
+    by : (b : Bool) → ltb (length body) 6 ≡ b → timingSays (timingAt body) ≡ plainTiming body
+    by true t = rw t refl
+    by false t = rw t (ap (λ (v : ℕ). v % 2 ^ 35 ∷ []) (div-one _))

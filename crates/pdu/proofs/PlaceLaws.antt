@@ -12,6 +12,7 @@ use lib.Dec.{eqb}
 use native.Mathlib.Nat.{div-one}
 use native.Mathlib.Omega.{arith}
 use Rattle.wire.specs.Bytes.{num, big, span, joined, Bytes}
+use Rattle.wire.specs.First.{first}
 use Rattle.wire.specs.Table.{keep, skip, clean, clear, sound}
 use Rattle.wire.proofs.ByteLaws.{big-num}
 use Rattle.wire.proofs.TableLaws.{both-true}
@@ -20,12 +21,12 @@ use Rattle.wire.proofs.ClearLaws.{joined-append, clear-pieces}
 use Rattle.pdu.specs.Tables.{fillOf, transmitterTable, signalHead, bodyTable}
 use Rattle.pdu.specs.Forms.{tableOf, bytesOf, sizeOf, bodyIn}
 use Rattle.pdu.specs.Reading.{signalOf, bodySize, content, bodyOf, refusal}
-use Rattle.pdu.specs.Writing.{writingRefusal, written, outputAfter, writtenForm, paddingZero}
+use Rattle.pdu.specs.Writing.{recordRules, writingRefusal, written, outputAfter, writtenForm, paddingZero}
 use Rattle.pdu.specs.Plain.{FilledTo}
 use Rattle.pdu.specs.Fields.{SignalFields}
-use Rattle.pdu.specs.Places.{plainTransmitterZero, dataEnd, plainSignalZero, PaddingPlaces, TransmitterBytes, SignalBytes, OutputExactly}
+use Rattle.pdu.specs.Places.{plainTransmitterZero, dataEnd, plainGiven, plainSignalZero, PaddingPlaces, TransmitterBytes, SignalBytes, OutputExactly}
 use Rattle.pdu.specs.Fits.{FitsTransmitter, FitsSignal}
-use Rattle.pdu.specs.RoundTrips.{bodyGiven, ReadsBack}
+use Rattle.pdu.specs.RoundTrips.{ReadsBack}
 use Rattle.pdu.specs.declared.Transmitter.{Transmitter}
 use Rattle.pdu.specs.declared.Signal.{Signal}
 use Rattle.pdu.specs.declared.Reading.{Reading}
@@ -33,11 +34,11 @@ use Rattle.pdu.specs.declared.Reading.the-variants.{Refused, Transmitter
 use Rattle.pdu.specs.declared.Written.the-variants.{Refused as NotWritten, Size}
 use Rattle.pdu.proofs.Agreement.{content-transmitter, content-signal}
 use Rattle.pdu.proofs.Answers.{Holds, reading-taken, reads-as, taken-exactly-when}
-use Rattle.pdu.proofs.Taken.{sound-form}
-use Rattle.pdu.proofs.BodyLaws.{slots-clear, body-clear}
+use Rattle.pdu.proofs.Taken.{signal-bounds, sound-form}
+use Rattle.pdu.proofs.BodyLaws.{body-given, given-at, body-clear}
 use Rattle.pdu.proofs.FieldLaws.{transmitter-fields, signal-fields}
 use Rattle.pdu.proofs.ReadLaws.{read-taken, taken-transmitter}
-use Rattle.pdu.proofs.RoundTrip.{written-form-back, length-form, bytes-form, reads-back}
+use Rattle.pdu.proofs.RoundTrip.{written-form-back, length-form, writes-rules, bytes-form, given-same, reads-back}
 
 -- ---- padding
 
@@ -90,10 +91,11 @@ signal-padding d b e type =
     let inside : 52 + n ≤ length d = omega (arith, h .size) in
     let counted : n ≡ dataEnd d - 52 = omega (arith, fields .body-size) in
     let left : fillOf n ≡ length d - dataEnd d = omega (arith, fields .body-size, h .size) in
-    let body : clear 52 (bodyTable message n) d ≡ joined (span 52 (dataEnd d) d ∷ replicate (length d - dataEnd d) 0 ∷ []) =
+    let body : clear 52 (bodyTable message n) d ≡ joined (plainGiven (num 1 37 d) (span 52 (dataEnd d) d) ∷ replicate (length d - dataEnd d) 0 ∷ []) =
     body-clear message n 52 d
     ∙ ap₂ (λ (l z : List ℕ). l ++ z)
-    (slots-clear message n 52 d b inside ∙ ap (λ (k : ℕ). take k (drop 52 d)) counted)
+    (given-at message n 52 d b inside (signal-bounds (signalOf d) n (h .rules) .timing)
+    ∙ ap₂ (λ (m k : ℕ). plainGiven m (take k (drop 52 d))) (fields .network .message-type) counted)
     (ap (λ (k : ℕ). replicate k 0) left ∙ sym (append-nil (replicate (length d - dataEnd d) 0))) in
     ap (λ (r : Reading). clear 0 (tableOf r) d) holds
     ∙ clear-append (signalHead n) (bodyTable message n) 0 d
@@ -101,7 +103,7 @@ signal-padding d b e type =
     ∙ sym
     (joined-append
     (span 0 10 d ∷ (0 ∷ 0 ∷ []) ∷ span 12 38 d ∷ (0 ∷ 0 ∷ []) ∷ slot-left d ∷ span 44 52 d ∷ [])
-    (span 52 (dataEnd d) d ∷ replicate (length d - dataEnd d) 0 ∷ []))
+    (plainGiven (num 1 37 d) (span 52 (dataEnd d) d) ∷ replicate (length d - dataEnd d) 0 ∷ []))
 
 -- of every taken datagram
 pub padding-places : (d : List ℕ) → Bytes d → refusal d ≡ 0 → PaddingPlaces d
@@ -110,24 +112,22 @@ padding-places d b e =
 
 -- ---- what is written
 
--- a form's bytes with the body that a writing of it is given
-given : (r : Reading) (body : List ℕ) → bytesOf r (bodyGiven r body) ≡ bytesOf r body
-unfolding bytesOf
-given (Refused n) body = refl
-given (aTransmitter t) body = refl
-given (aSignal s n) body = refl
-
 -- what was written, and reads back, is its own form with padding zero
-own-form : (r : Reading) (body : List ℕ) → Holds r → ReadsBack r body → (refusal (bytesOf r body) ≡ 0) × (paddingZero (bytesOf r body) ≡ bytesOf r body)
+own-form : (r : Reading) (body : List ℕ)
+    → Holds r
+    → Bytes body
+    → first (recordRules r) ≡ 0
+    → ReadsBack r body
+    → (refusal (bytesOf r body) ≡ 0) × (paddingZero (bytesOf r body) ≡ bytesOf r body)
 unfolding writtenForm
-own-form r body h back =
+own-form r body h b rules back =
     let z : List ℕ = bytesOf r body in
     let (none, holds) = reads-as z r h (back .reads) in (
       none,
       sym (written-form-back z none)
           ∙ ap (λ (q : Reading). bytesOf q (bodyIn q z)) holds
           ∙ ap (bytesOf r) (back .same-body)
-          ∙ given r body,
+          ∙ given-same r body b rules,
     )
 
 pub transmitter-bytes : (t : Transmitter) (room : ℕ)
@@ -136,8 +136,9 @@ pub transmitter-bytes : (t : Transmitter) (room : ℕ)
     → TransmitterBytes t (bytesOf (aTransmitter t) [])
 transmitter-bytes t room f e =
     let z : List ℕ = bytesOf (aTransmitter t) [] in
-    let back = reads-back (aTransmitter t) [] room f (λ i. omega arith) refl e in
-    let (none, own) = own-form (aTransmitter t) [] tt back in
+    let none-given : Bytes [] = λ i. omega arith in
+    let back = reads-back (aTransmitter t) [] room f none-given refl e in
+    let (none, own) = own-form (aTransmitter t) [] tt none-given (writes-rules (aTransmitter t) room e) back in
     let (long, (v, ((type, family), ((field, least), (fixed, (modulation, (pattern, (size, sync)))))))) =
     taken-exactly-when z .transmitter-taken .0 (t, back .reads) in
     record {
@@ -160,12 +161,16 @@ pub signal-bytes : (s : Signal) (body : List ℕ) (room : ℕ)
 signal-bytes s body room f b e =
     let n : ℕ = length body in
     let z : List ℕ = bytesOf (aSignal s n) body in
+    let rules = writes-rules (aSignal s n) room e in
     let back = reads-back (aSignal s n) body room f b refl e in
-    let (none, own) = own-form (aSignal s n) body tt back in
+    let (none, own) = own-form (aSignal s n) body tt b rules back in
     let (long, (v, ((type, family), ((field, least), (class, (tdl, ((whole, enough), (size, inner)))))))) =
     taken-exactly-when z .signal-taken .0 (s, n, back .reads) in
     let fields = signal-fields z s n (back .reads) in
-    let same : bodyOf z ≡ body = ap (λ (r : Reading). bodyIn r z) (reads-as z (aSignal s n) tt (back .reads) .1) ∙ back .same-body in
+    let message : ℕ = s .network .«message_type» in
+    let held = reads-as z (aSignal s n) tt (back .reads) .1 in
+    let same : bodyOf z ≡ plainGiven message body =
+    ap (λ (r : Reading). bodyIn r z) held ∙ back .same-body ∙ body-given message n body b refl (signal-bounds s n rules .timing) in
     let counted : dataEnd z ≡ 52 + n = omega (arith, fields .body-size) in
     record {
       size = subst (λ (k : ℕ). FilledTo k (length z)) counted size;

@@ -3,7 +3,7 @@
 -- Assumes nothing.
 use Prim.Native.Nat.{ℕ, _+_, _*_, _≤_}
 use mathlib.Core.Path.{_≡_, refl, sym, ap, ap₂, subst, _∙_}
-use mathlib.Core.Logic.{_≢_}
+use mathlib.Core.Logic.{_≢_, _⊎_}
 use mathlib.Core.Bool.{Bool, true, false, not, _&&_, true≢false}
 use mathlib.Core.List.{List, [], _∷_, _++_}
 use lib.ListN.{length, take, drop, length-drop}
@@ -25,14 +25,15 @@ use Rattle.pdu.specs.Forms.{tableOf, bytesOf, sizeOf, bodyIn}
 use Rattle.pdu.specs.Tables.{signalSize}
 use Rattle.pdu.specs.Reading.{bodySize, content, bodyOf, wrongLength, startRules, transmitterLayout, signalLayout, layoutRules}
 use Rattle.pdu.specs.Reading.{formRules, readingRules, refusal, reading}
+use Rattle.pdu.specs.Plain.{TimingRule}
 use Rattle.pdu.specs.Writing.{outputAfter, writtenForm, writtenAs, inWrittenForm}
 use Rattle.pdu.specs.declared.Signal.{Signal}
 use Rattle.pdu.specs.declared.Reading.{Reading}
 use Rattle.pdu.specs.declared.Reading.the-variants.{Refused, Transmitter as aTransmitter, Signal as aSignal}
 use Rattle.pdu.proofs.Agreement.{length-says, content-transmitter, content-signal, start-verdict, transmitter-layout, signal-layout}
-use Rattle.pdu.proofs.Agreement.{signal-record}
+use Rattle.pdu.proofs.Agreement.{inner-record, signal-record}
 use Rattle.pdu.proofs.Answers.{Holds, reads-as, reading-taken, reading-refused}
-use Rattle.pdu.proofs.Taken.{Taken, taken}
+use Rattle.pdu.proofs.Taken.{Taken, taken, signal-bounds}
 use Rattle.pdu.proofs.RoundTrip.{length-form, written-form-back, written-back}
 
 -- what was read, as reading answered it
@@ -83,11 +84,24 @@ pub taken-words : (d : List ℕ) (s : Signal) (n : ℕ)
     → s .network .«message_type» ≡ 0
     → (n ≡ Numbers.bodyHeader + Numbers.wordBytes * wordsIn n) × (wordsIn n ≤ Numbers.mostWords)
 taken-words d s n e zero-type =
-    let (v, (encoding, (npg, (net, (tsec, (msec, (type, (slot, (epoch, (last, (words, ((few, most), end)))))))))))) =
+    let (v, (encoding, (npg, (net, (tsec, (msec, (type, (slot, (epoch, (last, ((words, six), ((few, most), end)))))))))))) =
     signal-record s n .none .0 (read-taken d (aSignal s n) tt e .rules) in
     let whole : n ≡ 6 + 10 * (words zero-type .0) = words zero-type .1 in
     let short : n ≤ 126 = few zero-type in
     (omega arith, omega arith)
+
+-- a body of round-trip timing has six bytes
+pub taken-timing : (d : List ℕ) (s : Signal) (n : ℕ)
+    → reading d ≡ aSignal s n
+    → (s .network .«message_type» ≡ 1) ⊎ (s .network .«message_type» ≡ 2)
+    → n ≡ Numbers.timingBytes
+taken-timing d s n e timing = signal-bounds s n (read-taken d (aSignal s n) tt e .rules) .timing timing
+
+-- a body that breaks no rule has the size of round-trip timing where it is that
+pub timing-size : (s : Signal) (n : ℕ) → first (innerRules (aSignal s n)) ≡ 0 → TimingRule (s .network .«message_type») n
+timing-size s n e =
+    let (npg, (net, (tsec, (msec, (type, (slot, (epoch, (last, ((words, six), rest))))))))) = inner-record s n .none .0 e in
+    six
 
 -- the size answered for a taken datagram is its own length, and for a refused one it is 0
 pub taken-size : (d : List ℕ) → refusal d ≡ 0 → sizeOf (reading d) ≡ length d

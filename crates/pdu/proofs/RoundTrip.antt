@@ -5,10 +5,10 @@
 -- Assumes nothing.
 use Prim.Native.Nat.{ℕ, _+_, _≤_, _<_, _^_}
 use mathlib.Core.Path.{_≡_, refl, sym, ap, ap₂, subst, _∙_}
-use mathlib.Core.Logic.{_↔_}
+use mathlib.Core.Logic.{_↔_, _⊎_}
 use mathlib.Core.Bool.{Bool, true, false}
 use mathlib.Core.List.{List, [], _∷_, _++_, append-nil}
-use lib.ListN.{length, take, drop, replicate, length-drop}
+use lib.ListN.{length, getD, take, drop, replicate, length-drop}
 use lib.Seq.{take-all, take-at, drop-at, length-take-le}
 use lib.Dec.{ltb}
 use borrow.Author.Tests.{eq-eqb, le-ltb, ltb-false}
@@ -16,27 +16,30 @@ use native.Mathlib.Omega.{arith}
 use Rattle.wire.specs.Bytes.{Bytes}
 use Rattle.wire.specs.First.{first, _given-when_, numbered}
 use Rattle.wire.specs.Table.{Slot, width, read, fill, clear, allFixed, allBlank, sound, Fit}
-use Rattle.wire.proofs.TableLaws.{length-fill, read-fill, fixed-fill, fill-read, clear-blank, blank-clear}
+use Rattle.wire.proofs.TableLaws.{length-fill, length-clear, read-fill, fixed-fill, fill-read, clear-blank, blank-clear}
 use Rattle.wire.proofs.FirstLaws.{first-next, none-of}
 use Rattle.wire.proofs.FitLaws.{bytes-fill, bytes-take, bytes-drop, fit-read}
 use Rattle.wire.proofs.AppendLaws.{fill-append}
-use Rattle.wire.proofs.RuleLaws.{_also_, equal, both-then}
+use Rattle.wire.proofs.RuleLaws.{_also_, equal, one-of, both-then}
 use Rattle.pdu.specs.Numbers
 use Rattle.pdu.specs.Rules.{accessRules, slotRules, networkRules, bodyRules, innerRules}
-use Rattle.pdu.specs.Tables.{fillOf, transmitterTable, signalHead, bodySlots, bodyTable}
+use Rattle.pdu.specs.Tables.{fillOf, transmitterTable, signalHead, timingSlots, bodySlots, bodyTable}
 use Rattle.pdu.specs.Records.{transmitterValues, signalValues}
 use Rattle.pdu.specs.Forms.{tableOf, bodyValues, valuesOf, bytesOf, sizeOf, bodyIn}
 use Rattle.pdu.specs.Reading.{content, bodyOf, refusal, numberOf}
 use Rattle.pdu.specs.Writing.{recordRules, writingRules, writingRefusal, writtenForm, paddingZero, inWrittenForm}
-use Rattle.pdu.specs.RoundTrips.{WrittenBack, bodyGiven, bodyLength, ReadsBack, WrittenForm}
+use Rattle.pdu.specs.Timing.{timingAt}
+use Rattle.pdu.specs.Plain.{TimingRule}
+use Rattle.pdu.specs.RoundTrips.{WrittenBack, bodyGiven, bodyLength, ReadsBack, TimingBack, WrittenForm}
 use Rattle.pdu.specs.Fits.{FitsTransmitter, FitsSignal, Fits}
 use Rattle.pdu.specs.declared.Transmitter.{Transmitter}
 use Rattle.pdu.specs.declared.Signal.{Signal}
+use Rattle.pdu.specs.declared.Timing.the-variants.{Here}
 use Rattle.pdu.specs.declared.Reading.{Reading}
 use Rattle.pdu.specs.declared.Reading.the-variants.{Refused, Transmitter as aTransmitter, Signal as aSignal}
 use Rattle.pdu.specs.declared.Written.the-variants.{Size}
 use Rattle.pdu.proofs.Answers.{reading-taken, refusal-read}
-use Rattle.pdu.proofs.BodyLaws.{slots-clear, body-fit, body-written}
+use Rattle.pdu.proofs.BodyLaws.{timing-slots, slots-width, given-values, body-fit, body-written}
 use Rattle.pdu.proofs.Taken.{Taken, taken, takes, signal-bounds, sound-form, width-form}
 
 -- ---- written back
@@ -144,16 +147,24 @@ body-at s n body =
     ∙ drop-at (fill (signalHead n) front) (fill (bodyTable message n) held) Numbers.bodyStart (length-fill (signalHead n) front)
     ∙ body-written message n body
 
--- written and read: the body too
-again-body : (r : Reading) (body : List ℕ) → Bytes body → length body ≡ bodyLength r → bodyIn r (bytesOf r body) ≡ bodyGiven r body
-again-body (Refused n) body b long = refl
-again-body (aTransmitter t) body b long = refl
-again-body (aSignal s n) body b long =
+-- written and read: the body too, its padding zero
+again-body : (r : Reading) (body : List ℕ) → bodyIn r (bytesOf r body) ≡ bodyGiven r body
+again-body (Refused n) body = refl
+again-body (aTransmitter t) body = refl
+again-body (aSignal s n) body =
     let message : ℕ = s .network .«message_type» in
-    let same : clear 0 (bodySlots message n) body ≡ body =
-    slots-clear message n 0 body b (omega (arith, long)) ∙ take-all n body (omega (arith, long)) in
-    ap (take n) (body-at s n body ∙ ap (λ (l : List ℕ). l ++ replicate (fillOf n) 0) same)
-    ∙ take-at body (replicate (fillOf n) 0) n long
+    let given : List ℕ = clear 0 (bodySlots message n) body in
+    ap (take n) (body-at s n body)
+    ∙ take-at given (replicate (fillOf n) 0) n (length-clear 0 (bodySlots message n) body ∙ slots-width message n)
+
+-- and with that body it is written the same
+pub given-same : (r : Reading) (body : List ℕ) → Bytes body → first (recordRules r) ≡ 0 → bytesOf r (bodyGiven r body) ≡ bytesOf r body
+unfolding bytesOf
+given-same (Refused n) body b e = refl
+given-same (aTransmitter t) body b e = refl
+given-same (aSignal s n) body b e =
+    ap (λ (l : List ℕ). fill (tableOf (aSignal s n)) (signalValues s l))
+    (given-values (s .network .«message_type») n body b (signal-bounds s n e .timing))
 
 -- a record whose fields fit their types has values that fit the table
 transmitter-fit : (t : Transmitter) → FitsTransmitter t → Fit transmitterTable (transmitterValues t)
@@ -243,27 +254,45 @@ reads-back r body room f b long e =
     let (none, holds) = again r body fit rules in
     record {
       reads = reading-taken (bytesOf r body) none ∙ holds;
-      same-body = again-body r body b long;
+      same-body = again-body r body;
     }
 
--- ---- the written form
+-- the field of round-trip timing, where a body has six bytes
+timing-here : (body : List ℕ) → length body ≡ 6 → timingAt body ≡ Here (getD (read 0 (timingSlots 6) body) 0 0)
+unfolding timingAt
+timing-here body six = rw six
 
--- a body in a datagram has the length that its form says
-body-in-long : (r : Reading) (d : List ℕ) → length d ≡ sizeOf r → length (bodyIn r d) ≡ bodyLength r
-body-in-long (Refused n) d h = refl
-body-in-long (aTransmitter t) d h = refl
-body-in-long (aSignal s n) d h =
-    length-take-le n (drop Numbers.bodyStart d) (rw (length-drop Numbers.bodyStart d) (omega arith))
+-- written and read back
+pub timing-back : (s : Signal) (body : List ℕ) (room : ℕ) → Bytes body → writingRefusal (aSignal s (length body)) room ≡ 0 → TimingBack s body
+timing-back s body room b e = record { same = same }
+  where
+    message : ℕ
+    message = s .network .«message_type»
+
+    n : ℕ
+    n = length body
+
+    same : (message ≡ 1) ⊎ (message ≡ 2) → timingAt (bodyIn (aSignal s n) (bytesOf (aSignal s n) body)) ≡ timingAt body
+    same timing =
+        let six : TimingRule message n = signal-bounds s n (writes-rules (aSignal s n) room e) .timing in
+        let slots : bodySlots message n ≡ timingSlots 6 =
+        timing-slots message n (one-of _ _ (equal message _) (equal message _) .1 timing) ∙ ap timingSlots (six timing) in
+        let written : List ℕ = clear 0 (bodySlots message n) body in
+        let long : length written ≡ 6 = length-clear 0 (bodySlots message n) body ∙ slots-width message n ∙ six timing in
+        ap timingAt (again-body (aSignal s n) body)
+        ∙ timing-here written long
+        ∙ ap (λ (l : List ℕ). Here (getD l 0 0))
+        (ap (λ (t : List Slot). read 0 t written) (sym slots)
+        ∙ given-values message n body b six
+        ∙ ap (λ (t : List Slot). read 0 t body) slots)
+        ∙ sym (timing-here body (six timing))
+
+-- ---- the written form
 
 body-in-bytes : (r : Reading) (d : List ℕ) → Bytes d → Bytes (bodyIn r d)
 body-in-bytes (Refused n) d b i = omega arith
 body-in-bytes (aTransmitter t) d b i = omega arith
 body-in-bytes (aSignal s n) d b i = bytes-take n (drop Numbers.bodyStart d) (bytes-drop Numbers.bodyStart d b) i
-
-given-in : (r : Reading) (d : List ℕ) → bodyGiven r (bodyIn r d) ≡ bodyIn r d
-given-in (Refused n) d = refl
-given-in (aTransmitter t) d = refl
-given-in (aSignal s n) d = refl
 
 pub written-form : (d : List ℕ) → Bytes d → refusal d ≡ 0 → WrittenForm d
 unfolding writtenForm
@@ -273,14 +302,12 @@ written-form d b e =
     let h = taken d e in
     let fit : Fit (tableOf r) (valuesOf r body) = subst (Fit (tableOf r)) (h .values) (fit-read (tableOf r) 0 d b) in
     let (none, holds) = again r body fit (h .rules) in
-    let same-body : bodyIn r (bytesOf r body) ≡ body =
-    again-body r body (body-in-bytes r d b) (body-in-long r d (h .size)) ∙ given-in r d in
-    let body-same : bodyOf (bytesOf r body) ≡ body = ap (λ (q : Reading). bodyIn q (bytesOf r body)) holds ∙ same-body in
+    let body-same : bodyOf (bytesOf r body) ≡ bodyGiven r body = ap (λ (q : Reading). bodyIn q (bytesOf r body)) holds ∙ again-body r body in
     record {
       size = length-form r body ∙ ap sizeOf (sym (reading-taken d e));
       same = reading-taken (bytesOf r body) none ∙ holds ∙ sym (reading-taken d e);
       body = body-same;
-      again = ap₂ bytesOf holds body-same;
+      again = ap₂ bytesOf holds body-same ∙ given-same r body (body-in-bytes r d b) (h .rules);
       bytes = bytes-form r body;
     }
 

@@ -24,7 +24,7 @@ use Rattle.pdu.specs.Forms.{tableOf, valuesOf, sizeOf, bodyIn}
 use Rattle.pdu.specs.Reading.{transmitterOf, signalOf, bodySize, saysTransmitter, content, bodyOf, refusal}
 use Rattle.pdu.specs.Rules.{innerRules}
 use Rattle.pdu.specs.Writing.{recordRules}
-use Rattle.pdu.specs.Plain.{plainTransmitter, plainSignal, plainTransmitterRecord}
+use Rattle.pdu.specs.Plain.{TimingRule, plainTransmitter, plainSignal, plainTransmitterRecord}
 use Rattle.pdu.specs.declared.Transmitter.{Transmitter}
 use Rattle.pdu.specs.declared.Signal.{Signal}
 use Rattle.pdu.specs.declared.Reading.{Reading}
@@ -110,12 +110,13 @@ pub record SignalBounds (s : Signal) (n : ℕ) : Type 0 where
   pub encoding : s .encoding < Numbers.encodingKept
   pub slot : s .network .slot ≤ Numbers.lastSlot
   pub body : n ≤ Numbers.mostBytes
+  pub timing : TimingRule (s .network .«message_type») n
 
 pub signal-bounds : (s : Signal) (n : ℕ) → first (recordRules (aSignal s n)) ≡ 0 → SignalBounds s n
 signal-bounds s n e =
-    let (v, (encoding, (npg, (net, (tsec, (msec, (type, (slot, (epoch, (last, (words, ((few, most), end)))))))))))) =
+    let (v, (encoding, (npg, (net, (tsec, (msec, (type, (slot, (epoch, (last, ((words, six), ((few, most), end)))))))))))) =
     signal-record s n .none .0 e in
-    record { encoding = omega arith; slot = slot; body = by (eqb (s .network .«message_type») 0) refl few most }
+    record { encoding = omega arith; slot = slot; body = by (eqb (s .network .«message_type») 0) refl few most; timing = six }
   where
     by : (b : Bool)
         → eqb (s .network .«message_type») 0 ≡ b
@@ -218,7 +219,8 @@ sound-form (Refused n) e = refl
 sound-form (aTransmitter t) e = refl
 sound-form (aSignal s n) e =
     let short = signal-bounds s n e .body in
-    rw (lt-ltb (signalSize n) (256 ^ 2) (omega arith), lt-ltb (dataBits n) (256 ^ 2) (omega arith)) (body-sound (s .network .«message_type») n)
+    let six = signal-bounds s n e .timing in
+    rw (lt-ltb (signalSize n) (256 ^ 2) (omega arith), lt-ltb (dataBits n) (256 ^ 2) (omega arith)) (body-sound (s .network .«message_type») n six)
 
 pub width-form : (r : Reading) → width (tableOf r) ≡ sizeOf r
 width-form (Refused n) = refl

@@ -102,3 +102,7 @@ abbrev pub plainWord : List ℕ → ℕ → List ℕ
 plainWord body i =
     let word = num 10 (6 + 10 * i) body in
     cond (ltb (length body) (16 + 10 * i)) [] (word % 2 ^ 2 ∷ word / 2 ^ 2 % 2 ^ 5 ∷ word / 2 ^ 7 % 2 ^ 3 ∷ [])
+
+-- 001, Tables 5.2.5 and 5.2.6 (02, R-1): the first six bytes of a body are a 48-bit number, "bits 0 to 34" of which are the field
+abbrev pub plainTiming : List ℕ → List ℕ
+plainTiming body = cond (ltb (length body) 6) [] (num 6 0 body % 2 ^ 35 ∷ [])

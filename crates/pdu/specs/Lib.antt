@@ -3,6 +3,7 @@ pub mod Numbers
 pub mod Tables
 pub mod Records
 pub mod Words
+pub mod Timing
 pub mod Rules
 pub mod Forms
 pub mod Reading
@@ -12,3 +13,4 @@ pub mod Fits
 pub mod RoundTrips
 pub mod Fields
 pub mod Places
+pub mod Bodies

@@ -125,6 +125,16 @@ mostWords = 12
 abbrev pub mostBytes : ℕ
 mostBytes = 256
 
+-- 02, R-1: the two message types of round-trip timing, and the bytes of their body (001, Tables 5.2.5 and 5.2.6)
+abbrev pub interrogation : ℕ
+interrogation = 1
+
+abbrev pub timingReply : ℕ
+timingReply = 2
+
+abbrev pub timingBytes : ℕ
+timingBytes = 6
+
 -- where a Signal's body starts
 abbrev pub bodyStart : ℕ
 bodyStart = 52

@@ -2,8 +2,10 @@
 -- the same slot by slot. `span a b d` are bytes a to b of d, b left out; `num w o d` is the number in the w bytes of d from byte o on.
 use Prim.Native.Nat.{ℕ, _+_, _-_, _/_, _%_}
 use mathlib.Core.Path.{_≡_}
+use mathlib.Core.Bool.{cond, _||_}
 use mathlib.Core.List.{List, [], _∷_, _++_}
 use lib.ListN.{length, getD, drop, replicate}
+use lib.Dec.{eqb}
 use Rattle.wire.specs.Bytes.{num, span, joined}
 use Rattle.pdu.specs.Plain.{FixedRule, FilledTo}
 use Rattle.pdu.specs.Fields.{TransmitterFields, SignalFields}
@@ -32,6 +34,11 @@ plainTransmitterZero d =
 abbrev pub dataEnd : List ℕ → ℕ
 dataEnd d = 32 + num 2 28 d / 8
 
+-- a body with padding zero: that of types 1 and 2 (02, R-1; 001, Tables 5.2.5 and 5.2.6) begins with "bits 35 to 47", which are byte 52 of the PDU and
+-- the upper five bits of byte 53; in all others nothing is padding
+abbrev pub plainGiven : ℕ → List ℕ → List ℕ
+plainGiven type body = cond (eqb type 1 || eqb type 2) (0 ∷ getD body 1 0 % 8 ∷ drop 2 body) body
+
 -- a Signal with padding zero: "10 padding (2)", "38 padding (2)", of the slot ID "bits 17 to 23", which are the upper seven of byte 41, and the fill
 abbrev pub plainSignalZero : List ℕ → List (List ℕ)
 plainSignalZero d =
@@ -41,7 +48,7 @@ plainSignalZero d =
     ∷ (0 ∷ 0 ∷ [])  -- 38, 39
     ∷ (getD d 40 0 ∷ getD d 41 0 % 2 ∷ getD d 42 0 ∷ getD d 43 0 ∷ [])
     ∷ span 44 52 d
-    ∷ span 52 (dataEnd d) d  -- the body
+    ∷ plainGiven (num 1 37 d) (span 52 (dataEnd d) d)  -- the body
     ∷ replicate (length d - dataEnd d) 0
     ∷ []
 
@@ -70,7 +77,7 @@ pub record SignalBytes (s : Signal) (body z : List ℕ) : Type 0 where
   pub type : num 1 2 z ≡ 26
   pub family : num 1 3 z ≡ 4
   pub length-field : num 2 8 z ≡ length z
-  pub fields : SignalFields z s (length body) body
+  pub fields : SignalFields z s (length body) (plainGiven (s .network .«message_type») body)
   pub encoding-class : num 2 20 z / 16384 ≡ 1
   pub tdl-type : num 2 22 z ≡ 100
   pub padding : z ≡ joined (plainSignalZero z)

@@ -75,6 +75,10 @@ SecurityRule k = (k ≤ 127) ⊎ (k ≡ 255)
 abbrev pub WordsRule : ℕ → ℕ → Type 0
 WordsRule type size = type ≡ 0 → (words : ℕ) × (size ≡ 6 + 10 * words)
 
+-- 14 for round-trip timing (02, R-1): "a wrong body size of types 1 and 2"
+abbrev pub TimingRule : ℕ → ℕ → Type 0
+TimingRule type size = (type ≡ 1) ⊎ (type ≡ 2) → size ≡ 6
+
 -- 15: at most 12 words; "Types 1 to 7: 0 to 256 bytes"
 abbrev pub SizeRule : ℕ → ℕ → Type 0
 SizeRule type size = (type ≡ 0 → size ≤ 126) × (type ≢ 0 → size ≤ 256)
@@ -90,7 +94,7 @@ plainNetwork npg net tsec msec type slot epoch size =
     ∷ (13 unless (slot ≤ 98303))
     ∷ (13 unless (epoch ≤ 112))
     ∷ (13 unless (epoch ≡ 112 → slot ≤ 45151))
-    ∷ (14 unless WordsRule type size)
+    ∷ (14 unless (WordsRule type size × TimingRule type size))
     ∷ (15 unless SizeRule type size)
     ∷ []
 

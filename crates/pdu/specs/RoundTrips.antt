@@ -1,12 +1,17 @@
 -- What demand 2's two round trips say, for every form of PDU alike.
 use Prim.Native.Nat.{ℕ}
 use mathlib.Core.Path.{_≡_}
+use mathlib.Core.Logic.{_⊎_}
 use mathlib.Core.List.{List, [], _++_}
 use lib.ListN.{length, drop}
 use Rattle.wire.specs.Bytes.{Bytes}
+use Rattle.wire.specs.Table.{clear}
+use Rattle.pdu.specs.Tables.{bodySlots}
 use Rattle.pdu.specs.Forms.{sizeOf, bodyIn, bytesOf}
 use Rattle.pdu.specs.Reading.{content, bodyOf, reading}
 use Rattle.pdu.specs.Writing.{written, outputAfter, writtenForm, paddingZero}
+use Rattle.pdu.specs.Timing.{timingAt}
+use Rattle.pdu.specs.declared.Signal.{Signal as SignalFields}
 use Rattle.pdu.specs.declared.Reading.{Reading}
 use Rattle.pdu.specs.declared.Reading.the-variants.{Refused, Transmitter, Signal}
 use Rattle.pdu.specs.declared.Written.the-variants.{Size}
@@ -17,11 +22,11 @@ pub record WrittenBack (d out : List ℕ) : Type 0 where
   pub answer : written (content d) (length out) ≡ Size (length d)
   pub output : outputAfter (content d) (bodyOf d) out ≡ paddingZero d ++ drop (length d) out
 
--- the body that a writing of this form is given: a Transmitter has none
+-- the body that a writing of this form is given, padding inside it zero (02, R-1); a Transmitter has none
 abbrev pub bodyGiven : Reading → List ℕ → List ℕ
 bodyGiven (Refused n) body = []
 bodyGiven (Transmitter t) body = []
-bodyGiven (Signal s n) body = body
+bodyGiven (Signal s n) body = clear 0 (bodySlots (s .network .«message_type») n) body
 
 -- and its length
 abbrev pub bodyLength : Reading → ℕ
@@ -29,15 +34,21 @@ bodyLength (Refused n) = 0
 bodyLength (Transmitter t) = 0
 bodyLength (Signal s n) = n
 
--- "each record written reads back the same", its body too
+-- "each record written reads back the same", its body too; 02, R-1: "reads back with it zero", padding inside a body
 pub record ReadsBack (r : Reading) (body : List ℕ) : Type 0 where
   pub reads : reading (bytesOf r body) ≡ r
   pub same-body : bodyIn r (bytesOf r body) ≡ bodyGiven r body
+
+-- 02, R-1: the field of round-trip timing, written and read back
+pub record TimingBack (s : SignalFields) (body : List ℕ) : Type 0 where
+  pub same :
+      (s .network .«message_type» ≡ 1) ⊎ (s .network .«message_type» ≡ 2)
+      → timingAt (bodyIn (Signal s (length body)) (bytesOf (Signal s (length body)) body)) ≡ timingAt body
 
 -- the written form of a taken datagram: its size, what it reads as, its body; it is its own written form, and bytes
 pub record WrittenForm (d : List ℕ) : Type 0 where
   pub size : length (writtenForm d) ≡ sizeOf (reading d)
   pub same : reading (writtenForm d) ≡ reading d
-  pub body : bodyOf (writtenForm d) ≡ bodyOf d
+  pub body : bodyOf (writtenForm d) ≡ bodyGiven (content d) (bodyOf d)
   pub again : writtenForm (writtenForm d) ≡ writtenForm d
   pub bytes : Bytes (writtenForm d)

@@ -5,6 +5,7 @@ use mathlib.Core.List.{List, [], _∷_, _++_}
 use lib.Dec.{eqb, ltb, leb}
 use Rattle.wire.specs.First.{Refusal, _given-when_}
 use Rattle.pdu.specs.Numbers
+use Rattle.pdu.specs.Tables.{isTiming}
 use Rattle.pdu.specs.Words.{wordsIn, wholeWords}
 use Rattle.pdu.specs.declared.Sync.{Sync}
 use Rattle.pdu.specs.declared.Network.{Network}
@@ -59,10 +60,18 @@ slotRules n =
 unfoldable pub networkRules : Network → List Refusal
 networkRules n = accessRules n ++ slotRules n
 
+-- 02, R-1: the body of round-trip timing has six bytes
+abbrev pub wrongTiming : ℕ → ℕ → Bool
+wrongTiming type n = isTiming type && not (eqb n Numbers.timingBytes)
+
+-- 14, by the message type: a type 0 body is a header and whole words
+abbrev pub wrongBody : ℕ → ℕ → Bool
+wrongBody type n = cond (eqb type 0) (not (wholeWords n)) (wrongTiming type n)
+
 -- 14 and 15, for a body of n bytes in a message of the type given
 unfoldable pub bodyRules : ℕ → ℕ → List Refusal
 bodyRules type n =
-    (14 given-when (eqb type 0 && not (wholeWords n)))
+    (14 given-when wrongBody type n)
     ∷ (15 given-when cond (eqb type 0) (ltb Numbers.mostWords (wordsIn n)) (ltb Numbers.mostBytes n))
     ∷ []
 

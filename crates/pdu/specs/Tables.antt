@@ -1,7 +1,9 @@
 -- The layouts: one table for each whole PDU, in byte order, body and fill included (source 000, Tables 3 and 5; IEEE 1278.1 for the DIS header),
 -- as document 01 condenses them. Lengths are fixed values of the table; each struct of the record has a run of slots of its own.
 use Prim.Native.Nat.{ℕ, _+_, _-_, _*_, _/_}
+use mathlib.Core.Bool.{Bool, cond, _||_}
 use mathlib.Core.List.{List, [], _∷_, _++_}
+use lib.Dec.{eqb}
 use Rattle.wire.specs.Table.{Slot, kept, padding, one, parts, keep, only, skip}
 use Rattle.pdu.specs.Numbers
 
@@ -123,9 +125,17 @@ networkTable =
 abbrev pub signalHead : ℕ → List Slot
 signalHead n = headerTable Numbers.signalType (signalSize n) ++ (encodingTable n ++ networkTable)
 
--- the body's n bytes in a message of this type: one number, "carried unread", "every bit of a body"
+-- 02, R-1: whether a message type is one of round-trip timing
+abbrev pub isTiming : ℕ → Bool
+isTiming type = eqb type Numbers.interrogation || eqb type Numbers.timingReply
+
+-- 001, Tables 5.2.5 and 5.2.6: of 48 bits, bits 35 to 47 are padding and bits 0 to 34 kept; rule 14 asks for the 6 bytes that these take
+abbrev pub timingSlots : ℕ → List Slot
+timingSlots n = parts n (skip 13 ∷ keep 35 ∷ []) ∷ []
+
+-- the body's n bytes in a message of this type: round-trip timing by its table, all else one number, "carried unread", "every bit of a body"
 unfoldable pub bodySlots : ℕ → ℕ → List Slot
-bodySlots type n = kept n ∷ []
+bodySlots type n = cond (isTiming type) (timingSlots n) (kept n ∷ [])
 
 -- from byte 52 on: the body, and the fill
 abbrev pub bodyTable : ℕ → ℕ → List Slot

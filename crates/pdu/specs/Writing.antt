@@ -7,9 +7,10 @@ use lib.Dec.{eqb, ltb}
 use Rattle.wire.specs.First.{Refusal, _given-when_, first, told}
 use Rattle.wire.specs.Table.{clear, allBlank}
 use Rattle.pdu.specs.Numbers
+use Rattle.pdu.specs.Tables.{bodySlots}
 use Rattle.pdu.specs.Rules.{wrongVersion, innerRules}
 use Rattle.pdu.specs.Forms.{tableOf, bytesOf, sizeOf}
-use Rattle.pdu.specs.Reading.{content, bodyOf, formRules, refusal, readingSays}
+use Rattle.pdu.specs.Reading.{signalOf, bodySize, content, bodyOf, formRules, refusal, readingSays}
 use Rattle.pdu.specs.declared.Reading.{Reading}
 use Rattle.pdu.specs.declared.Reading.the-variants.{Refused as NotRead, Transmitter, Signal}
 use Rattle.pdu.specs.declared.Written.{Written}
@@ -61,6 +62,10 @@ writtenForm d = bytesOf (content d) (bodyOf d)
 -- a taken datagram with padding zero, the fill included: a function of the table alone
 unfoldable pub paddingZero : List ℕ → List ℕ
 paddingZero d = clear 0 (tableOf (content d)) d
+
+-- whether the padding inside the body of a Signal is zero
+abbrev pub bodyBlank : List ℕ → Bool
+bodyBlank d = allBlank Numbers.bodyStart (bodySlots (signalOf d .network .«message_type») (bodySize d)) d
 
 -- whether a datagram of this form breaks none of the form's rules, and its padding is zero
 abbrev pub writtenAs : Reading → List ℕ → Bool

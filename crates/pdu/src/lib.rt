@@ -102,6 +102,19 @@ pub const MOST_WORDS: usize = 12;
 
 pub const MOST_BYTES: usize = 256;
 
+// Round-trip timing (request R-1): its two message types, and the bytes of their body; the 35 kept bits are 3 of its first two bytes, and the last four.
+pub const INTERROGATION: u8 = 1;
+
+pub const TIMING_REPLY: u8 = 2;
+
+pub const TIMING_BYTES: usize = 6;
+
+pub const TIMING_LOW: usize = 2;
+
+pub const TIMING_HIGHS: u16 = 8;
+
+pub const TIMING_UNIT: u64 = 4294967296;
+
 // The last two bytes of a word start here; they hold the format in 2 bits, the label in 5 above it and the sublabel in 3 above that.
 pub const WORD_LOW: usize = 8;
 
@@ -211,6 +224,12 @@ pub enum Written {
 pub enum Carried {
     Other,
     Pdu(Reading),
+}
+
+// What a body holds as round-trip timing: the one kept field, of 35 bits.
+pub enum Timing {
+    Absent,
+    Here(u64),
 }
 
 // What stands at a word's place in a type 0 body.

@@ -34,7 +34,7 @@ pub const DATA_LENGTH: u8 = 12;
 // A field of the network header, the slot ID included.
 pub const NETWORK_HEADER: u8 = 13;
 
-// The body is not whole words.
+// The body is not whole words, or has not the size of round-trip timing.
 pub const BODY_SIZE: u8 = 14;
 
 // More words, or bytes, than a body may have.

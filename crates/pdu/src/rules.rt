@@ -2,10 +2,10 @@
 ghost use mathlib.Core.Path.{_≡_};
 ghost use Prim.Native.Nat.{_+_};
 ghost use Rattle.wire.specs.First.{first};
-ghost use Rattle.pdu.specs.Tables.{filled, signalSize};
+ghost use Rattle.pdu.specs.Tables.{filled, signalSize, isTiming};
 ghost use Rattle.pdu.specs.Words.{wordsIn};
 ghost use Rattle.pdu.specs.Rules.{wrongVersion, isPrimary, wrongSync, wrongSecurity, accessRules, isTooLate, slotRules, networkRules};
-ghost use Rattle.pdu.specs.Rules.{bodyRules};
+ghost use Rattle.pdu.specs.Rules.{wrongTiming, bodyRules};
 use crate::Network;
 use crate::Sync;
 use crate::refusals;
@@ -117,6 +117,23 @@ pub fn words_in(n: usize) -> usize
     (n - crate::BODY_HEADER) / crate::WORD_BYTES
 }
 
+// Whether a message type is one of round-trip timing.
+pub fn is_timing(message_type: u8) -> bool
+    ensures { λ r. ⌜ r ≡ isTiming «message_type» ⌝ }
+{
+    wire::either(
+        message_type == crate::INTERROGATION,
+        message_type == crate::TIMING_REPLY,
+    )
+}
+
+// Whether a body of n bytes has not the size of round-trip timing, and should have it.
+fn wrong_timing(message_type: u8, n: usize) -> bool
+    ensures { λ r. ⌜ r ≡ wrongTiming «message_type» n ⌝ }
+{
+    wire::both(is_timing(message_type), n != crate::TIMING_BYTES)
+}
+
 // The number of the first broken rule of a body of n bytes, or 0.
 pub fn body_refusal(message_type: u8, n: usize) -> u8
     ensures { λ r. ⌜ r ≡ first (bodyRules «message_type» n) ⌝ }
@@ -130,6 +147,9 @@ pub fn body_refusal(message_type: u8, n: usize) -> u8
             return refusals::BODY_LIMIT;
         }
         return 0;
+    }
+    if wrong_timing(message_type, n) {
+        return refusals::BODY_SIZE;
     }
     if crate::MOST_BYTES < n {
         return refusals::BODY_LIMIT;

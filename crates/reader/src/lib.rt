@@ -9,6 +9,7 @@ use pdu::Reading;
 
 mod signal;
 mod start;
+pub mod timing;
 mod transmitter;
 pub mod words;
 

@@ -9,7 +9,7 @@ ghost use Rattle.pdu.specs.Tables.{networkTable};
 ghost use Rattle.pdu.specs.Forms.{tableOf};
 ghost use Rattle.pdu.specs.Rules.{innerRules};
 ghost use Rattle.pdu.specs.Reading.{signalOf, bodySize, wrongBits, signalLayout, formRules};
-ghost use Rattle.pdu.specs.Writing.{writtenAs};
+ghost use Rattle.pdu.specs.Writing.{bodyBlank, writtenAs};
 ghost use Rattle.pdu.specs.declared.Reading.the-variants.{Signal as aSignal};
 use crate::start;
 use crate::words;
@@ -132,13 +132,25 @@ fn is_slot_blank(d: &[u8]) -> bool
     )
 }
 
-// Whether every padding bit of a Signal whose layout is right, and its fill, is zero.
+// Whether the padding inside the body is zero: round-trip timing alone has any.
+fn is_body_blank(d: &[u8]) -> bool
+    requires { ⌜ (first (signalLayout (now d)) ≡ 0) × (first (innerRules (aSignal (signalOf (now d)) (bodySize (now d)))) ≡ 0) ⌝ }
+    ensures { λ r. ⌜ r ≡ bodyBlank (now (d .entry)) ⌝ }
+{
+    if pdu::rules::is_timing(wire::u8_at(d, 37)) {
+        return wire::u16_at(d, pdu::BODY_START) / pdu::TIMING_HIGHS == 0;
+    }
+    true
+}
+
+// Whether every padding bit of a Signal that breaks no rule, and its fill, is zero.
 fn is_blank(d: &[u8]) -> bool
-    requires { ⌜ first (signalLayout (now d)) ≡ 0 ⌝ }
+    requires { ⌜ (first (signalLayout (now d)) ≡ 0) × (first (innerRules (aSignal (signalOf (now d)) (bodySize (now d)))) ≡ 0) ⌝ }
     ensures { λ r. ⌜ r ≡ allBlank 0 (tableOf (aSignal (signalOf (now (d .entry))) (bodySize (now (d .entry))))) (now (d .entry)) ⌝ }
 {
     let end = body_end(d);
-    let late = wire::both(is_slot_blank(d), wire::is_zero(&d[end..]));
+    let inside = wire::both(is_slot_blank(d), is_body_blank(d));
+    let late = wire::both(inside, wire::is_zero(&d[end..]));
     wire::both(wire::u16_at(d, 10) == 0, late)
 }
 

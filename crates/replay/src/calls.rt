@@ -27,9 +27,9 @@ pub struct State {
     pub good: bool,
 }
 
-// The state before any line: fresh ends, the far station of level 0, net 0.
+// The state before any line: fresh ends, the far station of level 0, net 0 and one exchange.
 pub fn start() -> State {
-    let made = far_end::new(0, 0);
+    let made = far_end::new(0, 0, 1);
     let far = made.far;
     let side = Side {
         near: near_end::new(),
@@ -44,8 +44,8 @@ pub fn start() -> State {
     }
 }
 
-fn make_station(level: u8, net: u8) -> Far {
-    let made = far_end::new(level, net);
+fn make_station(level: u8, net: u8, exchanges: u8) -> Far {
+    let made = far_end::new(level, net, exchanges);
     show::line(b"station", made.answer as u64);
     made.far
 }
@@ -148,7 +148,11 @@ fn run_near(side: Side, call: Call, given: &[u8; ROOM]) -> Side {
 // The far end after a call.
 fn run_far(far: Far, call: Call, given: &[u8; ROOM]) -> Far {
     match call {
-        Call::Station { level, net } => make_station(level, net),
+        Call::Station {
+            level,
+            net,
+            exchanges,
+        } => make_station(level, net, exchanges),
         Call::Far {
             size,
             room,

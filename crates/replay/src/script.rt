@@ -3,10 +3,11 @@ use text::ROOM;
 
 // A call. Its bytes stand at the start of a buffer; here is how many.
 pub enum Call {
-    // `station LEVEL NET`: makes the far end's station.
+    // `station LEVEL NET` or `station LEVEL NET EXCHANGES`: makes the far end's station.
     Station {
         level: u8,
         net: u8,
+        exchanges: u8,
     },
     // `store BYTES`: the lent store's length.
     Store(usize),
@@ -36,16 +37,45 @@ pub enum Call {
     Bad,
 }
 
-fn read_station(words: &[u8]) -> Call {
+// `LEVEL NET`: with one exchange.
+fn read_level_and_net(words: &[u8]) -> Call {
     let settings = text::decimals(words, u8::MAX as u64, u8::MAX as u64);
     if settings.good {
         Call::Station {
             level: settings.first as u8,
             net: settings.second as u8,
+            exchanges: 1,
         }
     } else {
         Call::Bad
     }
+}
+
+// `LEVEL NET EXCHANGES`
+fn read_settings(words: &[u8]) -> Call {
+    let level = text::decimal(text::first_word(words), u8::MAX as u64);
+    let others = text::decimals(text::other_words(words), u8::MAX as u64, u8::MAX as u64);
+    if wire::both(level.good, others.good) {
+        Call::Station {
+            level: level.value as u8,
+            net: others.first as u8,
+            exchanges: others.second as u8,
+        }
+    } else {
+        Call::Bad
+    }
+}
+
+// Whether there is a space behind the first word.
+fn has_more(words: &[u8]) -> bool {
+    text::find(words, 0, b' ') < words.len()
+}
+
+fn read_station(words: &[u8]) -> Call {
+    if has_more(text::other_words(words)) {
+        return read_settings(words);
+    }
+    read_level_and_net(words)
 }
 
 fn read_store(words: &[u8]) -> Call {
@@ -168,7 +198,11 @@ fn fits(at: usize, n: usize, size: usize) -> bool {
 // Nobody writes past the store's end.
 pub fn in_place(call: Call, before: u64, store: usize) -> bool {
     match call {
-        Call::Station { level: _, net: _ } => before == 0,
+        Call::Station {
+            level: _,
+            net: _,
+            exchanges: _,
+        } => before == 0,
         Call::Store(_) => before == 1,
         Call::Poke { offset, size } => wire::both(0 < before, fits(offset, size, store)),
         Call::Bad => false,

@@ -40,6 +40,13 @@ fn show_station(s: Station) {
     show::last(station::clock_of(s));
 }
 
+// `timing EXCHANGES COUNT`
+fn show_timing(s: Station) {
+    show::text(b"timing");
+    show::field(station::exchanges_of(s) as u64);
+    show::last(station::count_of(s) as u64);
+}
+
 // 1 for true and 0 for false.
 fn flag(b: bool) -> u64 {
     if b { 1 } else { 0 }
@@ -79,6 +86,7 @@ fn show_ends(near: Near, far: Far) {
     let station = far_end::station(far);
     show_counts(near, far);
     show_station(station);
+    show_timing(station);
     show_places(station);
 }
 

@@ -7,8 +7,8 @@ use mathlib.Core.Path.{_≡_, refl, sym, ap, _∙_, subst}
 use mathlib.Core.Bool.{Bool, true, false, true≢false}
 use mathlib.Core.List.{List}
 use mathlib.Core.Logic.{_⊎_, inl, inr, ⊎-elim}
-use lib.Dec.{eqb}
-use borrow.Author.Tests.{eqb-true, eqb-false}
+use lib.Dec.{eqb, ltb}
+use borrow.Author.Tests.{eqb-true, eqb-false, ltb-true, ltb-false}
 use native.Mathlib.Omega.{arith}
 use Rattle.occupancy.specs.Places.{held}
 use Rattle.pdu.specs.Reading.{reading}
@@ -20,7 +20,7 @@ use Rattle.station.specs.Units.{idOf, clockOf, keyOf, unitAt}
 use Rattle.station.specs.Plain.{Sized, Sender, Agree}
 use Rattle.station.specs.Hearing.{step, heard}
 use Rattle.station.specs.Runs.{Call, datagram, time}
-use Rattle.station.specs.Table.{IsSignal, Passed, Table, nothing, entered, again, joined, positioned, ticked}
+use Rattle.station.specs.Table.{IsSignal, Passed, Table, nothing, entered, again, joined, positioned, counted, ticked}
 use Rattle.station.specs.Claims.{UnreadChangesNothing, RefusalsChangeNothing, Outsider, unknown, elsewhere, another, coarse}
 use Rattle.station.specs.Claims.{OutsidersChangeNothing, AdmitsNoOne, TransmittersAdmitNoOne, ClockNeverBack}
 use Rattle.station.specs.declared.Station.{Station}
@@ -35,6 +35,14 @@ same-or-not j i = go (eqb j i) refl
     go : (b : Bool) → eqb j i ≡ b → (j ≡ i) ⊎ (j ≡ i → ⊥)
     go true e = inl (eqb-true j i e)
     go false e = inr (eqb-false j i e)
+
+-- one is below the other or not
+pub less-or-not : (j i : ℕ) → (j < i) ⊎ (i ≤ j)
+less-or-not j i = go (ltb j i) refl
+  where
+    go : (b : Bool) → ltb j i ≡ b → (j < i) ⊎ (i ≤ j)
+    go true e = inl (ltb-true j i e)
+    go false e = inr (ltb-false j i e)
 
 -- where the own fields are the same, it is the same second
 pub same-clock : {own own′ : Own} → own′ ≡ own → own′ .clock ≡ own .clock
@@ -53,6 +61,7 @@ refusals-change-nothing s sized c = go (only-by-rules s sized c)
     go (again t i e x y) w = absurd (⊎-elim (λ l. omega arith) (λ l. omega arith) w)
     go (joined g i e x y z u) w = absurd (⊎-elim (λ l. omega arith) (λ l. omega arith) w)
     go (positioned g i e x y z u) w = absurd (⊎-elim (λ l. omega arith) (λ l. omega arith) w)
+    go (counted g i e x y z v u) w = absurd (⊎-elim (λ l. omega arith) (λ l. omega arith) w)
     go (ticked x y) w = absurd (⊎-elim (λ l. omega arith) (λ l. omega arith) w)
 
 pub clock-never-back : (s : Station) → Sized s → (c : Call) → ClockNeverBack s c
@@ -64,6 +73,7 @@ clock-never-back s sized c = go (only-by-rules s sized c)
     go (again t i e x y) = omega (arith, same-clock (y .own))
     go (joined g i e x y z u) = omega (arith, u .clock)
     go (positioned g i e x y z u) = omega (arith, same-clock (u .own))
+    go (counted g i e x y z v u) = omega (arith, u .clock)
     go (ticked x y) = omega (arith, y .clock)
 
 -- ---- a datagram is one thing only
@@ -129,6 +139,7 @@ outsiders-change-nothing s sized d g read out = go refl (only-by-rules s sized (
     go same (again t i e x y) = absurd (no-transmitter (sym same) read e)
     go same (joined g′ i e x y z u) = absurd (refuted same e x z)
     go same (positioned g′ i e x y z u) = absurd (refuted same e x z)
+    go same (counted g′ i e x y z v u) = absurd (refuted same e x z)
     go {c = c} same (ticked x y) = absurd (no-time c same refl)
 
 -- ---- Transmitters
@@ -163,4 +174,5 @@ transmitters-admit-no-one s sized d t read = go refl (only-by-rules s sized (dat
     }
     go same (joined g i e x y z u) = absurd (no-transmitter same e read)
     go same (positioned g i e x y z u) = absurd (no-transmitter same e read)
+    go same (counted g i e x y z v u) = absurd (no-transmitter same e read)
     go {c = c} same (ticked x y) = absurd (no-time c same refl)

@@ -9,8 +9,8 @@ use Rattle.pdu.specs.Words.{wordAt}
 use Rattle.pdu.specs.Tables.{bodySlots}
 use Rattle.pdu.specs.Forms.{bytesOf}
 use Rattle.station.specs.Units.{fresh, made, placeOf}
-use Rattle.station.specs.Hearing.{enter, renew, hearTransmitter, otherId, signalRules as stationRules, labelled, messageOf, afterJ00}
-use Rattle.station.specs.Hearing.{afterPpli, hearMessage, hearSignal, step, heard}
+use Rattle.station.specs.Hearing.{enter, renew, hearTransmitter, otherId, signalRules as stationRules, labelled, wordSaying, messageOf, afterJ00}
+use Rattle.station.specs.Hearing.{afterTiming, afterPpli, hearMessage, hearSignal, step, heard}
 use Rattle.station.specs.Clock.{atTime, clocked}
 use Rattle.station.specs.Example.{ExampleRuns}
 
@@ -19,5 +19,14 @@ unfolding bodySlots bytesOf wordAt wrongVersion wrongSync accessRules slotRules 
     wrongType wrongLength
     wrongFixed wrongBits startRules transmitterLayout signalLayout readingRules refusal reading
     least wordOf fresh made placeOf enter
-    renew hearTransmitter otherId stationRules labelled messageOf afterJ00 afterPpli hearMessage hearSignal step heard atTime clocked
-runs = record { first-answers = refl; first-state = refl; first-id = refl; second-answers = refl; second-state = refl }
+    renew hearTransmitter otherId stationRules labelled wordSaying messageOf afterJ00 afterTiming afterPpli hearMessage hearSignal step heard atTime clocked
+runs = record {
+  first-answers = refl;
+  first-state = refl;
+  first-id = refl;
+  second-answers = refl;
+  second-state = refl;
+  third-answers = refl;
+  third-state = refl;
+  third-count = refl;
+}

@@ -13,8 +13,9 @@ use Rattle.occupancy.proofs.WordLaws.{held-past}
 use Rattle.station.specs.Units.{blank, fresh, made, unitAt}
 use Rattle.station.specs.Plain.{Sized, HeldAt}
 use Rattle.station.specs.Runs.{Call, called, after}
-use Rattle.station.specs.Table.{SameElse, Table, nothing, entered, again, joined, positioned, ticked}
+use Rattle.station.specs.Table.{SameElse, Table, nothing, entered, again, joined, positioned, counted, ticked}
 use Rattle.station.specs.Claims.{Announces, HeardFirst}
+use Rattle.station.specs.declared.Settings.{Settings}
 use Rattle.station.specs.declared.Unit.{Unit}
 use Rattle.station.specs.declared.Station.{Station}
 use Rattle.station.proofs.Table.{only-by-rules}
@@ -77,17 +78,18 @@ announced i key s sized c = go (only-by-rules s sized c)
     go {s′ = s′} (again t k e x y) w = inl (stood s s′ i key (y .word) (key-kept s s′ k (y .others) (y .key) i) w)
     go {s′ = s′} (joined g k e x y z u) w = inl (stood s s′ i key (u .word) (same-key s s′ i (u .entries)) w)
     go {s′ = s′} (positioned g k e x y z u) w = inl (stood s s′ i key (u .word) (key-kept s s′ k (u .others) (u .key) i) w)
+    go {s′ = s′} (counted g k e x y z v u) w = inl (stood s s′ i key (u .word) (same-key s s′ i (u .entries)) w)
     go {s′ = s′} (ticked x y) w =
         let was = y .stays i (w .0 .place) .0 (w .0 .taken) .0 in
         inl (record { place = w .0 .place; taken = was }, sym (same-key s s′ i (y .entries)) ∙ w .1)
 
-pub heard-first : (level net : ℕ) (calls : List Call) → HeardFirst (made level net .station) calls
+pub heard-first : (given : Settings) (calls : List Call) → HeardFirst (made given .station) calls
 unfolding fresh
-heard-first level net calls = of-made (λ s. HeardFirst s calls) from-fresh level net
+heard-first given calls = of-made (λ s. HeardFirst s calls) (λ settings some. from-fresh settings) given
   where
-    from-fresh : (level net : ℕ) → HeardFirst (fresh level net) calls
-    from-fresh level net i h =
-        let s = fresh level net in
+    from-fresh : (settings : Settings) → HeardFirst (fresh settings) calls
+    from-fresh settings i h =
+        let s = fresh settings in
         let key = unitAt (after s calls) i .key in
         ⊎-elim
         (λ (v : Stands i key s). absurd (nobody s refl i (v .0)))

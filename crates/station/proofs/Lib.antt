@@ -5,6 +5,7 @@ pub mod PlaceLaws
 pub mod PartLaws
 pub mod Table
 pub mod Changes
+pub mod Ways
 pub mod RunLaws
 pub mod InNet
 pub mod HeardFirst

@@ -1,4 +1,4 @@
--- The maker's answer and station in plain numbers, by the two tests of its settings; and that a key is its four numbers, by arithmetic.
+-- The maker's answer and station in plain numbers, by the four tests of its settings; and that a key is its four numbers, by arithmetic.
 -- Assumes nothing.
 use Prim.Native.Nat.{ℕ}
 use mathlib.Core.Path.{_≡_, refl}
@@ -8,39 +8,48 @@ use lib.Dec.{ltb}
 use borrow.Author.Tests.{ltb-true, ltb-false}
 use native.Mathlib.Omega.{arith}
 use Rattle.pdu.specs.declared.Header.{Header}
-use Rattle.station.specs.Numbers.{lastLevel, lastNet}
-use Rattle.station.specs.Units.{fresh, made}
+use Rattle.station.specs.Numbers.{lastLevel, lastNet, fewestExchanges, mostExchanges}
+use Rattle.station.specs.Units.{fresh, leastSettings, made}
 use Rattle.station.specs.Claims.{Fresh, MakerTable, refused, taken, MadeByRules, TwoBytes, SameKey}
+use Rattle.station.specs.declared.Settings.{Settings}
 use Rattle.station.specs.declared.Made.{Made}
 use Rattle.station.proofs.HeardFirst.{nobody}
 
-is-fresh : (level net : ℕ) → Fresh level net (fresh level net)
+is-fresh : (given : Settings) → Fresh (given .level) (given .net) (given .exchanges) (fresh given)
 unfolding fresh
-is-fresh level net = record {
+is-fresh given = record {
   level = refl;
   net = refl;
+  exchanges = refl;
+  count = refl;
   id = refl;
   state = refl;
   clock = refl;
   sized = refl;
-  empty = nobody (fresh level net) refl;
+  empty = nobody (fresh given) refl;
 }
 
-pub made-by-rules : (level net : ℕ) → MadeByRules level net
+pub made-by-rules : (given : Settings) → MadeByRules given
 unfolding made
-made-by-rules level net = go (ltb lastLevel level) (ltb lastNet net) refl refl
+made-by-rules given =
+    go (ltb lastLevel (given .level)) (ltb lastNet (given .net)) (ltb (given .exchanges) fewestExchanges) (ltb mostExchanges (given .exchanges))
+    refl refl refl refl
   where
     -- what the maker gives, by whether the settings are refused
-    given : Bool → Made
-    given b = cond b (record { station = fresh 0 0; answer = 37 }) (record { station = fresh level net; answer = 0 })
+    gives : Bool → Made
+    gives b = cond b (record { station = fresh leastSettings; answer = 37 }) (record { station = fresh given; answer = 0 })
 
-    go : (a b : Bool)
-        → ltb lastLevel level ≡ a
-        → ltb lastNet net ≡ b
-        → MakerTable level net (given (a || b) .answer) (given (a || b) .station)
-    go true b x y = refused (inl (omega (arith, ltb-true lastLevel level x))) (is-fresh 0 0)
-    go false true x y = refused (inr (omega (arith, ltb-true lastNet net y))) (is-fresh 0 0)
-    go false false x y = taken (ltb-false _ _ x) (ltb-false _ _ y) (is-fresh level net)
+    go : (a b c d : Bool)
+        → ltb lastLevel (given .level) ≡ a
+        → ltb lastNet (given .net) ≡ b
+        → ltb (given .exchanges) fewestExchanges ≡ c
+        → ltb mostExchanges (given .exchanges) ≡ d
+        → MakerTable (given .level) (given .net) (given .exchanges) (gives (a || b || (c || d)) .answer) (gives (a || b || (c || d)) .station)
+    go true b c d x y z w = refused (inl (ltb-true _ _ x)) (is-fresh leastSettings)
+    go false true c d x y z w = refused (inr (inl (ltb-true _ _ y))) (is-fresh leastSettings)
+    go false false true d x y z w = refused (inr (inr (inl (ltb-true _ _ z)))) (is-fresh leastSettings)
+    go false false false true x y z w = refused (inr (inr (inr (ltb-true _ _ w)))) (is-fresh leastSettings)
+    go false false false false x y z w = taken (ltb-false _ _ x) (ltb-false _ _ y) (ltb-false _ _ z) (ltb-false _ _ w) (is-fresh given)
 
 pub same-key : (h h′ : Header) → TwoBytes h → TwoBytes h′ → SameKey h h′
 same-key h h′ fits fits′ = record {

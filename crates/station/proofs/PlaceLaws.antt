@@ -2,9 +2,9 @@
 -- Each test is opened once here, by cases on what it answers, so that the table and the theorems speak of places, keys and labels only.
 -- Assumes nothing.
 use Prim.Native.Nat.{ℕ}
-use mathlib.Core.Path.{_≡_, refl, sym, ap, _∙_}
+use mathlib.Core.Path.{_≡_, refl, sym, ap, ap₂, _∙_}
 use mathlib.Core.Bool.{Bool, true, false, cond, not, _&&_, _||_, true≢false}
-use mathlib.Core.Logic.{inl, inr}
+use mathlib.Core.Logic.{_⊎_, inl, inr}
 use lib.Dec.{eqb, ltb}
 use borrow.Author.Tests.{eqb-true, eqb-false, eq-eqb, ltb-true, ltb-false}
 use native.Mathlib.Omega.{arith}
@@ -17,11 +17,12 @@ use Rattle.pdu.specs.declared.Word.the-variants.{Absent, Here}
 use Rattle.station.specs.Numbers.{anyId}
 use Rattle.station.specs.Units.{unitAt, holds, placeOf, known}
 use Rattle.station.specs.Plain.{Sender, Stranger, LowestFree, Full, Agree, Clash, IsJ00, IsPpli, IsOther}
-use Rattle.station.specs.Hearing.{otherId, labelled, messageOf, isFine}
+use Rattle.station.specs.Hearing.{otherId, labelled, wordSaying, messageOf, isFine, isCoarse}
 use Rattle.station.specs.declared.State.{State}
 use Rattle.station.specs.declared.State.the-variants.{Waiting, Coarse, Fine}
 use Rattle.station.specs.declared.Station.{Station}
-use Rattle.station.specs.declared.Message.the-variants.{NetEntry, Ppli, Other}
+use Rattle.station.specs.declared.Message.{Message}
+use Rattle.station.specs.declared.Message.the-variants.{NetEntry, Ppli, Interrogation, TimingReply, Other}
 
 -- ---- where a key stands
 
@@ -128,18 +129,10 @@ module _ (own sender : ℕ) where
 -- ---- what a first word says
 
 module _ (type : ℕ) where
-  pub says-j00 : (w : Word) → IsJ00 type w → messageOf type w ≡ NetEntry
-  unfolding messageOf labelled
-  says-j00 w (t, e) = ap (messageOf type) e ∙ rw (eq-eqb type 0 t)
-
-  pub says-ppli : (w : Word) → IsPpli type w → messageOf type w ≡ Ppli
-  unfolding messageOf labelled
-  says-ppli w (t, (sublabel, e)) = ap (messageOf type) e ∙ rw (eq-eqb type 0 t)
-
-  pub j00-said : (w : Word) → messageOf type w ≡ NetEntry → IsJ00 type w
-  unfolding messageOf labelled
-  j00-said Absent e = absurd (let z : _≡_ {A = ℕ} 0 1 = cc in omega arith)
-  j00-said (Here format label sublabel) e =
+  word-j00 : (w : Word) → wordSaying type w ≡ NetEntry → IsJ00 type w
+  unfolding wordSaying labelled
+  word-j00 Absent e = absurd (let z : _≡_ {A = ℕ} 0 1 = cc in omega arith)
+  word-j00 (Here format label sublabel) e =
       go (eqb type 0) (eqb format 0) (eqb label 0) (eqb sublabel 0) refl refl refl refl e
     where
       more : (b : Bool) → cond b Ppli Other ≡ NetEntry → ⊥
@@ -155,10 +148,10 @@ module _ (type : ℕ) where
       go true false c d x y z u f = absurd (let q : _≡_ {A = ℕ} 0 1 = cc in omega arith)
       go false b c d x y z u f = absurd (let q : _≡_ {A = ℕ} 0 1 = cc in omega arith)
 
-  pub ppli-said : (w : Word) → messageOf type w ≡ Ppli → IsPpli type w
-  unfolding messageOf labelled
-  ppli-said Absent e = absurd (let z : _≡_ {A = ℕ} 0 1 = cc in omega arith)
-  ppli-said (Here format label sublabel) e =
+  word-ppli : (w : Word) → wordSaying type w ≡ Ppli → IsPpli type w
+  unfolding wordSaying labelled
+  word-ppli Absent e = absurd (let z : _≡_ {A = ℕ} 0 1 = cc in omega arith)
+  word-ppli (Here format label sublabel) e =
       go (eqb type 0) (eqb format 0) (eqb label 0 && eqb sublabel 0) (eqb label 2) refl refl refl e
     where
       go : (a b c d : Bool) → eqb type 0 ≡ a → eqb format 0 ≡ b → eqb label 2 ≡ d
@@ -170,10 +163,101 @@ module _ (type : ℕ) where
       go true false c d x y z f = absurd (let q : _≡_ {A = ℕ} 0 1 = cc in omega arith)
       go false b c d x y z f = absurd (let q : _≡_ {A = ℕ} 0 1 = cc in omega arith)
 
+  -- a word says nothing of round-trip timing
+  no-timing : (w : Word) → ((wordSaying type w ≡ Interrogation) ⊎ (wordSaying type w ≡ TimingReply)) → ⊥
+  unfolding wordSaying labelled
+  no-timing Absent (inl e) = let z : _≡_ {A = ℕ} 0 1 = cc in omega arith
+  no-timing Absent (inr e) = let z : _≡_ {A = ℕ} 0 1 = cc in omega arith
+  no-timing (Here format label sublabel) e = go (eqb type 0 && eqb format 0) (eqb label 0 && eqb sublabel 0) (eqb label 2) e
+    where
+      none : (m : Message) → (m ≡ NetEntry) ⊎ ((m ≡ Ppli) ⊎ (m ≡ Other)) → (m ≡ Interrogation) ⊎ (m ≡ TimingReply) → ⊥
+      none m (inl f) (inl e) = let z : _≡_ {A = ℕ} 0 1 = cc in omega arith
+      none m (inl f) (inr e) = let z : _≡_ {A = ℕ} 0 1 = cc in omega arith
+      none m (inr (inl f)) (inl e) = let z : _≡_ {A = ℕ} 0 1 = cc in omega arith
+      none m (inr (inl f)) (inr e) = let z : _≡_ {A = ℕ} 0 1 = cc in omega arith
+      none m (inr (inr f)) (inl e) = let z : _≡_ {A = ℕ} 0 1 = cc in omega arith
+      none m (inr (inr f)) (inr e) = let z : _≡_ {A = ℕ} 0 1 = cc in omega arith
+
+      go : (a b c : Bool)
+          → ((cond a (cond b NetEntry (cond c Ppli Other)) Other ≡ Interrogation) ⊎ (cond a (cond b NetEntry (cond c Ppli Other)) Other ≡ TimingReply))
+          → ⊥
+      go true true c e = none NetEntry (inl refl) e
+      go true false true e = none Ppli (inr (inl refl)) e
+      go true false false e = none Other (inr (inr refl)) e
+      go false b c e = none Other (inr (inr refl)) e
+
+-- ---- what a Signal says
+
+-- by its type, and else by its first word
+data Said (type : ℕ) (w : Word) (m : Message) : Type 0 where
+  by-ask : type ≡ 1 → m ≡ Interrogation → Said type w m
+  by-reply : type ≡ 2 → m ≡ TimingReply → Said type w m
+  by-word : wordSaying type w ≡ m → Said type w m
+
+module _ (type : ℕ) where
+  said : (w : Word) (m : Message) → messageOf type w ≡ m → Said type w m
+  unfolding messageOf
+  said w m e = go (eqb type 1) (eqb type 2) refl refl e
+    where
+      go : (a b : Bool) → eqb type 1 ≡ a → eqb type 2 ≡ b → cond a Interrogation (cond b TimingReply (wordSaying type w)) ≡ m → Said type w m
+      go true b x y e = by-ask (eqb-true _ _ x) (sym e)
+      go false true x y e = by-reply (eqb-true _ _ y) (sym e)
+      go false false x y e = by-word e
+
+  pub says-j00 : (w : Word) → IsJ00 type w → messageOf type w ≡ NetEntry
+  unfolding messageOf wordSaying labelled
+  says-j00 w (t, e) = ap₂ messageOf t e
+
+  pub says-ppli : (w : Word) → IsPpli type w → messageOf type w ≡ Ppli
+  unfolding messageOf wordSaying labelled
+  says-ppli w (t, (sublabel, e)) = ap₂ messageOf t e
+
+  pub says-ask : (w : Word) → type ≡ 1 → messageOf type w ≡ Interrogation
+  unfolding messageOf
+  says-ask w t = ap (λ (k : ℕ). messageOf k w) t
+
+  pub says-reply : (w : Word) → type ≡ 2 → messageOf type w ≡ TimingReply
+  unfolding messageOf
+  says-reply w t = ap (λ (k : ℕ). messageOf k w) t
+
+  pub j00-said : (w : Word) → messageOf type w ≡ NetEntry → IsJ00 type w
+  j00-said w e = go (said w NetEntry e)
+    where
+      go : Said type w NetEntry → IsJ00 type w
+      go (by-ask t f) = absurd (let z : _≡_ {A = ℕ} 0 1 = cc in omega arith)
+      go (by-reply t f) = absurd (let z : _≡_ {A = ℕ} 0 1 = cc in omega arith)
+      go (by-word f) = word-j00 type w f
+
+  pub ppli-said : (w : Word) → messageOf type w ≡ Ppli → IsPpli type w
+  ppli-said w e = go (said w Ppli e)
+    where
+      go : Said type w Ppli → IsPpli type w
+      go (by-ask t f) = absurd (let z : _≡_ {A = ℕ} 0 1 = cc in omega arith)
+      go (by-reply t f) = absurd (let z : _≡_ {A = ℕ} 0 1 = cc in omega arith)
+      go (by-word f) = word-ppli type w f
+
+  pub ask-said : (w : Word) → messageOf type w ≡ Interrogation → type ≡ 1
+  ask-said w e = go (said w Interrogation e)
+    where
+      go : Said type w Interrogation → type ≡ 1
+      go (by-ask t f) = t
+      go (by-reply t f) = absurd (let z : _≡_ {A = ℕ} 0 1 = cc in omega arith)
+      go (by-word f) = absurd (no-timing type w (inl f))
+
+  pub reply-said : (w : Word) → messageOf type w ≡ TimingReply → type ≡ 2
+  reply-said w e = go (said w TimingReply e)
+    where
+      go : Said type w TimingReply → type ≡ 2
+      go (by-ask t f) = absurd (let z : _≡_ {A = ℕ} 0 1 = cc in omega arith)
+      go (by-reply t f) = t
+      go (by-word f) = absurd (no-timing type w (inr f))
+
   pub other-said : (w : Word) → messageOf type w ≡ Other → IsOther type w
   other-said w e = (
     λ j. let f : NetEntry ≡ Other = sym (says-j00 w j) ∙ e in let z : _≡_ {A = ℕ} 0 1 = cc in omega arith,
     λ p. let f : Ppli ≡ Other = sym (says-ppli w p) ∙ e in let z : _≡_ {A = ℕ} 0 1 = cc in omega arith,
+    λ t. let f : Interrogation ≡ Other = sym (says-ask w t) ∙ e in let z : _≡_ {A = ℕ} 0 1 = cc in omega arith,
+    λ t. let f : TimingReply ≡ Other = sym (says-reply w t) ∙ e in let z : _≡_ {A = ℕ} 0 1 = cc in omega arith,
   )
 
 -- ---- the station's state
@@ -182,3 +266,8 @@ pub is-fine : (st : State) → isFine st ≡ true → st ≡ Fine
 is-fine Waiting e = absurd (true≢false (sym e))
 is-fine Coarse e = absurd (true≢false (sym e))
 is-fine Fine e = refl
+
+pub is-coarse : (st : State) → isCoarse st ≡ true → st ≡ Coarse
+is-coarse Waiting e = absurd (true≢false (sym e))
+is-coarse Coarse e = refl
+is-coarse Fine e = absurd (true≢false (sym e))

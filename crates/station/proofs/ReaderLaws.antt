@@ -1,7 +1,7 @@
 -- What the station needs to know of reading and of tests: all that these proofs cite of pdu's and wire's laws goes through here.
--- The law proved here: the reader's number is never 42, so a refusal is never taken for a J0.0; reading gives no number from 16 to 49.
+-- The law proved here: reading gives no number from 16 to 49, so a refusal is never taken for an answer of the station's.
 -- Assumes nothing.
-use Prim.Native.Nat.{ℕ}
+use Prim.Native.Nat.{ℕ, _≤_}
 use mathlib.Core.Path.{_≡_}
 use mathlib.Core.List.{List}
 use native.Mathlib.Omega.{arith}
@@ -16,6 +16,6 @@ pub use Rattle.wire.proofs.PartLaws.{num-part}
 pub use Rattle.pdu.proofs.FieldLaws.{transmitter-fields, signal-fields, word-parts}
 pub use Rattle.pdu.proofs.ReadLaws.{body-there}
 
--- a datagram that reading refuses is not refused with 42
-pub refused-not-42 : (d : List ℕ) (n : ℕ) → reading d ≡ Refused n → n ≡ 42 → ⊥
-refused-not-42 d n e q = refusal-apart d n (omega arith) (omega arith) (refuses-as d n .0 e .0)
+-- a datagram that reading refuses is refused with no number from 16 to 49
+pub refused-not : (d : List ℕ) (n k : ℕ) → reading d ≡ Refused n → 16 ≤ k → k ≤ 49 → n ≡ k → ⊥
+refused-not d n k e low high q = refusal-apart d n (omega arith) (omega arith) (refuses-as d n .0 e .0)

@@ -1,35 +1,53 @@
 -- Lists of calls, by induction: what each call keeps, the list keeps; what is so afterwards was so before, or some call made it so. Each law
 -- asks for one call only, and hands on that a call keeps the sixteen places.
 -- Assumes nothing.
-use Prim.Native.Nat.{ℕ}
-use mathlib.Core.Path.{_∙_, ap}
-use mathlib.Core.Bool.{Bool, true, false, cond, _||_}
+use Prim.Native.Nat.{ℕ, _≤_}
+use mathlib.Core.Path.{_≡_, refl, _∙_, ap}
+use mathlib.Core.Bool.{Bool, true, false, cond, _||_, true≢false}
 use mathlib.Core.List.{List, [], _∷_}
 use mathlib.Core.Logic.{_⊎_, inl, inr, ⊎-elim}
 use lib.ListN.{length}
 use lib.Dec.{ltb}
-use Rattle.station.specs.Numbers.{lastLevel, lastNet}
-use Rattle.station.specs.Units.{fresh, made}
+use borrow.Author.Tests.{ltb-false}
+use native.Mathlib.Omega.{arith}
+use Rattle.station.specs.Numbers.{lastLevel, lastNet, fewestExchanges, mostExchanges}
+use Rattle.station.specs.Units.{fresh, wrongSettings, leastSettings, made}
 use Rattle.station.specs.Plain.{Sized}
 use Rattle.station.specs.Runs.{Call, called, after}
-use Rattle.station.specs.Table.{Table, nothing, entered, again, joined, positioned, ticked}
+use Rattle.station.specs.Table.{Table, nothing, entered, again, joined, positioned, counted, ticked}
 use Rattle.station.specs.Claims.{Some, here, later}
+use Rattle.station.specs.declared.Settings.{Settings}
+use Rattle.station.specs.declared.Own.{Own}
 use Rattle.station.specs.declared.Station.{Station}
 use Rattle.station.specs.declared.Made.{Made}
 use Rattle.station.proofs.Table.{only-by-rules}
 
+-- neither of two tests holds where not one of them does
+neither-of : (a b : Bool) → (a || b) ≡ false → (a ≡ false) × (b ≡ false)
+neither-of true b e = absurd (true≢false e)
+neither-of false b e = (refl, e)
+
 -- what holds of every fresh station holds of every station that the maker gives
 pub of-made : (Q : Station → Type 0)
-    → ((level net : ℕ) → Q (fresh level net))
-    → (level net : ℕ)
-    → Q (made level net .station)
+    → ((settings : Settings) → 1 ≤ settings .exchanges → Q (fresh settings))
+    → (given : Settings)
+    → Q (made given .station)
 unfolding made
-of-made Q f level net = go (ltb lastLevel level || ltb lastNet net)
+of-made Q f given = go (wrongSettings given) refl
   where
+    -- settings that are taken have an exchange
+    some : wrongSettings given ≡ false → 1 ≤ given .exchanges
+    some e =
+        let place = ltb lastLevel (given .level) || ltb lastNet (given .net) in
+        let few = ltb (given .exchanges) fewestExchanges in
+        let many = ltb mostExchanges (given .exchanges) in
+        ltb-false (given .exchanges) fewestExchanges (neither-of few many (neither-of place (few || many) e .1) .0)
+
     go : (b : Bool)
-        → Q (cond {A = Made} b (record { station = fresh 0 0; answer = 37 }) (record { station = fresh level net; answer = 0 }) .station)
-    go true = f 0 0
-    go false = f level net
+        → wrongSettings given ≡ b
+        → Q (cond {A = Made} b (record { station = fresh leastSettings; answer = 37 }) (record { station = fresh given; answer = 0 }) .station)
+    go true e = f leastSettings (omega arith)
+    go false e = f given (some e)
 
 -- a call keeps the sixteen places
 pub sized-after : (s : Station) → Sized s → (c : Call) → Sized (called s c .station)
@@ -41,7 +59,24 @@ sized-after s sized c = go (only-by-rules s sized c)
     go (again t i e x y) = y .others .size ∙ sized
     go (joined g i e x y z u) = ap length (u .entries) ∙ sized
     go (positioned g i e x y z u) = u .others .size ∙ sized
+    go (counted g i e x y z v u) = ap length (u .entries) ∙ sized
     go (ticked x y) = ap length (y .entries) ∙ sized
+
+-- a call changes no setting
+pub settings-kept : (s : Station) → Sized s → (c : Call) → called s c .station .own .settings ≡ s .own .settings
+settings-kept s sized c = go (only-by-rules s sized c)
+  where
+    same : {own own′ : Own} → own′ ≡ own → own′ .settings ≡ own .settings
+    same e = ap (λ (o : Own). o .settings) e
+
+    go : {c : Call} {n : ℕ} {s′ : Station} → Table s c n s′ → s′ .own .settings ≡ s .own .settings
+    go (nothing row) = refl
+    go (entered t i e x y z) = same (z .own)
+    go (again t i e x y) = same (y .own)
+    go (joined g i e x y z u) = u .settings
+    go (positioned g i e x y z u) = same (u .own)
+    go (counted g i e x y z v u) = u .settings
+    go (ticked x y) = y .settings
 
 -- what each call keeps, a list of calls keeps
 module _ (Q : Station → Type 0) (keeps : (s : Station) → Sized s → (c : Call) → Q s → Q (called s c .station)) where

@@ -1,42 +1,52 @@
 -- What is true of every station that calls can reach: by the rows of the table, and the laws of lists of calls.
 -- A new entry has a key that no held place had, a clock call frees every silent place, and no other call touches last or frees a place.
 -- Assumes nothing.
-use Prim.Native.Nat.{ℕ, _^_, _<_}
+use Prim.Native.Nat.{ℕ, _+_, _^_, _<_, _≤_}
 use mathlib.Core.Path.{_≡_, refl, sym, ap, _∙_, subst}
 use mathlib.Core.Bool.{true, true≢false}
 use mathlib.Core.List.{List}
-use mathlib.Core.Logic.{⊎-elim}
+use mathlib.Core.Logic.{_⊎_, inl, inr, ⊎-elim}
 use lib.ListN.{length, getD}
 use lib.Pow.{pow-pos}
 use native.Mathlib.Omega.{arith}
 use Rattle.occupancy.specs.Places.{places, held}
 use Rattle.pdu.specs.declared.Transmitter.{Transmitter}
-use Rattle.station.specs.Units.{clockOf, keyOf, blank, fresh, made, unitAt}
+use Rattle.station.specs.Units.{exchangesOf, countOf, clockOf, keyOf, blank, fresh, made, unitAt}
 use Rattle.station.specs.Plain.{Sized, NoneBeyond, HeldAt, Stranger}
 use Rattle.station.specs.Runs.{Call, called, after}
-use Rattle.station.specs.Table.{SameElse, Table, nothing, entered, again, joined, positioned, ticked}
+use Rattle.station.specs.Table.{SameElse, Joined, Counted, Table, nothing, entered, again, joined, positioned, counted, ticked}
 use Rattle.station.specs.Claims.{Present, Sound}
+use Rattle.station.specs.declared.State.the-variants.{Coarse, Fine}
+use Rattle.station.specs.declared.Settings.{Settings}
+use Rattle.station.specs.declared.Standing.{Standing}
+use Rattle.station.specs.declared.Own.{Own}
 use Rattle.station.specs.declared.Unit.{Unit}
 use Rattle.station.specs.declared.Station.{Station}
 use Rattle.station.proofs.Table.{only-by-rules}
-use Rattle.station.proofs.Changes.{same-or-not, same-clock}
-use Rattle.station.proofs.RunLaws.{of-made, kept-by-all}
+use Rattle.station.proofs.Changes.{same-or-not, less-or-not, same-clock}
+use Rattle.station.proofs.Ways.{Ways, to-coarse, as-it-was, to-fine, ways}
+use Rattle.station.proofs.RunLaws.{of-made, settings-kept, kept-by-all}
 use Rattle.station.proofs.HeardFirst.{nobody, key-kept}
 
 -- ---- a fresh station
 
-fresh-sound : (level net : ℕ) → Sound (fresh level net)
+fresh-sound : (settings : Settings) → Sound (fresh settings)
 unfolding fresh
-fresh-sound level net =
-    let none = nobody (fresh level net) refl in
+fresh-sound settings =
+    let none = nobody (fresh settings) refl in
     record {
       sized = refl;
       word = pow-pos places;
       distinct = λ i j h k e. absurd (none i h);
       units = λ i h. absurd (none i h);
+      counting = λ e. absurd (let z : _≡_ {A = ℕ} 0 1 = cc in omega arith);
     }
 
 -- ---- one call
+
+-- while it is Coarse, the count is below the number of exchanges
+abbrev Counting : Own → Type 0
+Counting own = own .standing .state ≡ Coarse → own .standing .count < own .settings .exchanges
 
 -- every unit that is held is present
 abbrev AllPresent : Station → Type 0
@@ -89,12 +99,13 @@ module _ (s s′ : Station) (k : ℕ) (same : SameElse k s s′) (sound : Sound 
       other i q h f = alone i (was-held i q h) (sym (key-of i q) ∙ f ∙ new)
 
   -- that unit keeps its key, and no place is taken or freed
-  renewed-sound : s′ .used ≡ s .used
+  renewed-sound : s′ .own ≡ s .own
+      → s′ .used ≡ s .used
       → unitAt s′ k .key ≡ unitAt s k .key
-      → clockOf s′ ≡ clockOf s
       → Present (clockOf s′) (unitAt s′ k)
       → Sound s′
-  renewed-sound word key now new =
+  renewed-sound own word key new =
+      let now = same-clock own in
       let was = held-before s s′ word in
       let keys = key-kept s s′ k same key in
       record {
@@ -102,6 +113,7 @@ module _ (s s′ : Station) (k : ℕ) (same : SameElse k s s′) (sound : Sound 
         word = subst (λ (w : ℕ). w < 2 ^ places) (sym word) (sound .word);
         distinct = λ i j h g f. sound .distinct i j (was i h) (was j g) (sym (keys i) ∙ f ∙ keys j);
         units = each-present now new;
+        counting = subst Counting (sym own) (sound .counting);
       }
 
 -- a call that leaves the entries as they were and takes no place
@@ -111,8 +123,9 @@ same-entries : (s s′ : Station)
     → NoneBeyond s′
     → (was : (i : ℕ) → HeldAt s′ i → HeldAt s i)
     → ((i : ℕ) → HeldAt s′ i → Present (clockOf s′) (unitAt s i))
+    → Counting (s′ .own)
     → Sound s′
-same-entries s s′ sound entries word was present =
+same-entries s s′ sound entries word was present counting =
     let unit : (i : ℕ) → unitAt s′ i ≡ unitAt s i = (λ i. ap (λ (us : List Unit). getD us i blank) entries) in
     let key : (i : ℕ) → unitAt s′ i .key ≡ unitAt s i .key = (λ i. ap (λ (u : Unit). u .key) (unit i)) in
     record {
@@ -120,11 +133,47 @@ same-entries s s′ sound entries word was present =
       word = word;
       distinct = λ i j h g f. sound .distinct i j (was i h) (was j g) (sym (key i) ∙ f ∙ key j);
       units = λ i h. subst (λ (u : Unit). Present (clockOf s′) u) (sym (unit i)) (present i h);
+      counting = counting;
     }
 
-keeps : (s : Station) → Sized s → (c : Call) → Sound s → Sound (called s c .station)
-keeps s sized c sound = go (only-by-rules s sized c)
+-- a call that leaves the places, the entries and the second as they were
+same-places : (s s′ : Station)
+    → Sound s
+    → s′ .used ≡ s .used
+    → s′ .units ≡ s .units
+    → clockOf s′ ≡ clockOf s
+    → Counting (s′ .own)
+    → Sound s′
+same-places s s′ sound word entries clock counting =
+    let was = held-before s s′ word in
+    same-entries s s′ sound entries (subst (λ (w : ℕ). w < 2 ^ places) (sym word) (sound .word)) was
+    (λ i h. subst (λ (t : ℕ). Present t (unitAt s i)) (sym clock) (sound .units i (was i h)))
+    counting
+
+keeps : (s : Station) → Sized s → (c : Call) → 1 ≤ exchangesOf s → Sound s → Sound (called s c .station)
+keeps s sized c some sound = go (only-by-rules s sized c)
   where
+    -- a J0.0 leaves it Coarse only where the count is zero, or where it was Coarse
+    joined-counting : {u : Unit} {s′ : Station} → Joined s u s′ → Counting (s′ .own)
+    joined-counting {u = u} {s′ = s′} j coarse = go (ways j)
+      where
+        go : Ways s u s′ → countOf s′ < exchangesOf s′
+        go (to-coarse b w v) =
+            omega (arith, j .count-zero (b .0) (b .1) w, ap (λ (g : Settings). g .exchanges) (j .settings), some)
+        go (as-it-was b w v) =
+            omega (arith, j .count-kept (λ o p q. w q), ap (λ (g : Settings). g .exchanges) (j .settings), sound .counting (sym v ∙ coarse))
+        go (to-fine b v) = absurd (let z : _≡_ {A = ℕ} 0 1 = cc in omega arith)
+
+    -- a reply that counts leaves it Coarse only below the number of exchanges
+    counted-counting : {s′ : Station} → Counted s s′ → Counting (s′ .own)
+    counted-counting {s′ = s′} w coarse = go (less-or-not (countOf s + 1) (exchangesOf s))
+      where
+        go : (countOf s + 1 < exchangesOf s) ⊎ (exchangesOf s ≤ countOf s + 1) → countOf s′ < exchangesOf s′
+        go (inl h) = omega (arith, w .one-more (omega arith), ap (λ (g : Settings). g .exchanges) (w .settings))
+        go (inr h) =
+            let fine = w .fine h in
+            absurd (let z : _≡_ {A = ℕ} 0 1 = cc in omega arith)
+
     go : {c : Call} {n : ℕ} {s′ : Station} → Table s c n s′ → Sound s′
     go (nothing row) = sound
     go {s′ = s′} (entered t k e x y z) =
@@ -139,26 +188,25 @@ keeps s sized c sound = go (only-by-rules s sized c)
                 present = omega (arith, z .last, now);
                 inside = λ w. absurd (true≢false (sym w ∙ z .outside));
               });
+          counting = subst Counting (sym (z .own)) (sound .counting);
         }
     go {s′ = s′} (again t k e x y) =
         let now = same-clock (y .own) in
         let was = sound .units k (x .there) in
-        renewed-sound s s′ k (y .others) sound (y .word) (y .key) now (record {
+        renewed-sound s s′ k (y .others) sound (y .own) (y .word) (y .key) (record {
           heard = omega (arith, y .last, now, was .heard);
           present = omega (arith, y .last, now, was .present);
           inside = λ w. y .state ∙ y .inside .0 w .1;
         })
-    go {s′ = s′} (joined g k e x y z u) =
-        let was = held-before s s′ (u .word) in
-        same-entries s s′ sound (u .entries) (subst (λ (w : ℕ). w < 2 ^ places) (sym (u .word)) (sound .word)) was
-        (λ i h. subst (λ (t : ℕ). Present t (unitAt s i)) (sym (u .clock)) (sound .units i (was i h)))
+    go {s′ = s′} (joined g k e x y z u) = same-places s s′ sound (u .word) (u .entries) (u .clock) (joined-counting u)
     go {s′ = s′} (positioned g k e x y z u) =
         let now = same-clock (u .own) in
-        renewed-sound s s′ k (u .others) sound (u .word) (u .key) now (record {
+        renewed-sound s s′ k (u .others) sound (u .own) (u .word) (u .key) (record {
           heard = omega (arith, u .last, now);
           present = omega (arith, u .last, now);
           inside = λ w. u .state ∙ z;
         })
+    go {s′ = s′} (counted g k e x y z v u) = same-places s s′ sound (u .word) (u .entries) (u .clock) (counted-counting u)
     go {s′ = s′} (ticked x y) =
         let was : (i : ℕ) → HeldAt s′ i → HeldAt s i =
         (λ i h. record { place = h .place; taken = y .stays i (h .place) .0 (h .taken) .0 }) in
@@ -168,10 +216,34 @@ keeps s sized c sound = go (only-by-rules s sized c)
           present = omega (arith, y .stays i (h .place) .0 (h .taken) .1, y .clock);
           inside = sound .units i (was i h) .inside;
         })
+        (λ coarse.
+        let standing = y .standing in
+        omega (
+          arith,
+          ap (λ (g : Settings). g .exchanges) (y .settings),
+          ap (λ (st : Standing). st .count) standing,
+          sound .counting (sym (ap (λ (st : Standing). st .state) standing) ∙ coarse),
+        ))
 
 -- ---- every list of calls
 
+fresh-exchanges : (settings : Settings) → 1 ≤ settings .exchanges → 1 ≤ exchangesOf (fresh settings)
+unfolding fresh
+fresh-exchanges settings some = some
+
+-- it has an exchange, and is sound
+abbrev Standing? : Station → Type 0
+Standing? s = (1 ≤ exchangesOf s) × Sound s
+
+keeps-both : (s : Station) → Sized s → (c : Call) → Standing? s → Standing? (called s c .station)
+keeps-both s sized c (some, sound) =
+    (subst (λ (g : Settings). 1 ≤ g .exchanges) (sym (settings-kept s sized c)) some, keeps s sized c some sound)
+
 -- Whatever the calls, a station from the maker stays sound.
-pub always-sound : (level net : ℕ) (calls : List Call) → Sound (after (made level net .station) calls)
-always-sound level net calls =
-    of-made (λ s. Sound (after s calls)) (λ l n. kept-by-all Sound keeps (fresh l n) calls (fresh-sound l n .sized) (fresh-sound l n)) level net
+pub always-sound : (given : Settings) (calls : List Call) → Sound (after (made given .station) calls)
+always-sound given calls = of-made (λ s. Sound (after s calls)) from-fresh given
+  where
+    from-fresh : (settings : Settings) → 1 ≤ settings .exchanges → Sound (after (fresh settings) calls)
+    from-fresh settings some =
+        let sound = fresh-sound settings in
+        kept-by-all Standing? keeps-both (fresh settings) calls (sound .sized) (fresh-exchanges settings some, sound) .1

@@ -1,7 +1,7 @@
 -- Whatever the call, what it answers and leaves is a row of the table (only-by-rules). The tests of the rules are followed one by one, and each
 -- way ends in its row; what a row says has changed is read off the definitions.
 -- Assumes nothing.
-use Prim.Native.Nat.{ℕ, _-_, _<_}
+use Prim.Native.Nat.{ℕ, _+_, _-_, _<_, _≤_}
 use mathlib.Core.Path.{_≡_, refl, sym, ap, _∙_}
 use mathlib.Core.Bool.{Bool, true, false, cond, not, _&&_, _||_, true≢false}
 use mathlib.Core.List.{List, [], _∷_}
@@ -9,7 +9,7 @@ use mathlib.Core.Logic.{inl, inr, _↔_}
 use lib.ListN.{getD, set, length-set}
 use lib.Seq.{getD-set-same, getD-set-other}
 use lib.Dec.{eqb, ltb}
-use borrow.Author.Tests.{eqb-true, eqb-false, eq-eqb, ne-eqb, ltb-true, ltb-false, leb-false, lt-leb, not-true, not-false}
+use borrow.Author.Tests.{eqb-true, eqb-false, eq-eqb, ne-eqb, ltb-true, ltb-false, lt-ltb, le-ltb, leb-false, lt-leb, not-true, not-false}
 use native.Mathlib.Omega.{arith}
 use Rattle.wire.specs.First.{Refusal, _given-when_}
 use Rattle.station.proofs.ReaderLaws.{both-true}
@@ -21,16 +21,18 @@ use Rattle.pdu.specs.declared.Signal.{Signal}
 use Rattle.pdu.specs.declared.Reading.{Reading}
 use Rattle.pdu.specs.declared.Reading.the-variants.{Refused, Transmitter as aTransmitter, Signal as aSignal}
 use Rattle.station.specs.Numbers.{absence}
-use Rattle.station.specs.Units.{levelOf, netOf, idOf, stateOf, clockOf, keyOf, blank, unitAt, placeOf, known, withUnit, withNew}
+use Rattle.station.specs.Units.{levelOf, netOf, exchangesOf, countOf, idOf, stateOf, clockOf, keyOf, blank, unitAt, placeOf, known, withUnit}
+use Rattle.station.specs.Units.{withNew}
 use Rattle.station.specs.Plain.{Sized, LowestFree}
 use Rattle.station.specs.Hearing.{answering, unless, newUnit, renewed, enter, renew, hearTransmitter, otherId, senderOf, signalRules}
-use Rattle.station.specs.Hearing.{messageOf, stateAfter, bothCoarse, afterJ00, afterPpli, heardUnit, isFine, hearMessage, hearSignal}
+use Rattle.station.specs.Hearing.{messageOf, stateAfter, bothCoarse, countJoined, afterJ00, afterPpli, heardUnit, isFine, isCoarse, countsFor}
+use Rattle.station.specs.Hearing.{countNext, stateTimed, afterTiming, hearMessage, hearSignal}
 use Rattle.station.specs.Hearing.{step, firstWord, heard}
 use Rattle.station.specs.Clock.{silent, stays, atTime, clocked}
 use Rattle.station.specs.Runs.{Call, datagram, time}
-use Rattle.station.specs.Table.{IsSignal, Passed, SameElse, Entered, Renewed, Joined, Positioned, Ticked, unread, no-room}
-use Rattle.station.specs.Table.{stranger, other-net, other-id, not-fine, not-in, passed, back, Table, nothing, entered, again, joined}
-use Rattle.station.specs.Table.{positioned, ticked}
+use Rattle.station.specs.Table.{IsSignal, Passed, Counting, SameElse, Entered, Renewed, Joined, Counted, Positioned, Ticked, unread}
+use Rattle.station.specs.Table.{no-room, stranger, other-net, other-id, not-fine, not-in, passed, uncounted, asked, back, Table, nothing}
+use Rattle.station.specs.Table.{entered, again, joined, positioned, counted, ticked}
 use Rattle.station.specs.Claims.{OnlyByRules}
 use Rattle.station.specs.declared.State.{State}
 use Rattle.station.specs.declared.State.the-variants.{Waiting, Coarse, Fine}
@@ -38,9 +40,9 @@ use Rattle.station.specs.declared.Unit.{Unit}
 use Rattle.station.specs.declared.Station.{Station}
 use Rattle.station.specs.declared.Heard.{Heard}
 use Rattle.station.specs.declared.Message.{Message}
-use Rattle.station.specs.declared.Message.the-variants.{NetEntry, Ppli, Other}
+use Rattle.station.specs.declared.Message.the-variants.{NetEntry, Ppli, Interrogation, TimingReply, Other}
 use Rattle.station.proofs.PlaceLaws.{sender-known, stranger-unknown, lowest-free, none-free, clash, agree, j00-said, ppli-said}
-use Rattle.station.proofs.PlaceLaws.{other-said, is-fine}
+use Rattle.station.proofs.PlaceLaws.{ask-said, reply-said, other-said, is-fine, is-coarse}
 
 -- an outcome that is in the table
 abbrev Tabled : Station → Call → Heard → Type 0
@@ -169,6 +171,18 @@ state-kept Waiting h = absurd (h refl)
 state-kept Coarse h = refl
 state-kept Fine h = refl
 
+count-kept : (b : Bool) (st : State) (n : ℕ) → (b ≡ true → st ≡ Waiting → ⊥) → countJoined b st n ≡ n
+count-kept true Waiting n h = absurd (h refl refl)
+count-kept true Coarse n h = refl
+count-kept true Fine n h = refl
+count-kept false st n h = refl
+
+-- both levels are 4, where the test says so
+four-both : (own sender : ℕ) → bothCoarse own sender ≡ true → (own ≡ 4) × (sender ≡ 4)
+four-both own sender e =
+    let w = both-true (eqb own 4) (eqb sender 4) e in
+    (eqb-true _ _ (w .0), eqb-true _ _ (w .1))
+
 pub joined-row : (s : Station) (u : Unit) → Joined s u (afterJ00 s u)
 unfolding afterJ00
 joined-row s u =
@@ -185,7 +199,51 @@ joined-row s u =
       coarse = λ o v w. by true (both-four _ _ o v) ∙ ap (stateAfter true) w;
       stays = λ o v w. by true (both-four _ _ o v) ∙ state-kept (stateOf s) w;
       fine = λ w. by false (not-both-four _ _ w);
+      count-zero = λ o v w.
+          ap (λ (b : Bool). countJoined b (stateOf s) (countOf s)) (both-four _ _ o v) ∙ ap (λ (st : State). countJoined true st (countOf s)) w;
+      count-kept = λ w. count-kept both (stateOf s) (countOf s) (λ e. let four = four-both (levelOf s) (u .level) e in w (four .0) (four .1));
     }
+
+-- the count, and the state at it
+next-below : (exchanges count : ℕ) → count < exchanges → countNext exchanges count ≡ count + 1
+next-below exchanges count h = rw (lt-ltb count exchanges h)
+
+next-beyond : (exchanges count : ℕ) → exchanges ≤ count → countNext exchanges count ≡ exchanges
+next-beyond exchanges count h = rw (le-ltb count exchanges h)
+
+timed-fine : (exchanges count : ℕ) → exchanges ≤ count + 1 → countNext exchanges count ≡ exchanges
+timed-fine exchanges count h = go (ltb count exchanges) refl
+  where
+    go : (b : Bool) → ltb count exchanges ≡ b → cond b (count + 1) exchanges ≡ exchanges
+    go true e = omega (arith, ltb-true count exchanges e)
+    go false e = refl
+
+pub counted-row : (s : Station) → Counted s (afterTiming s)
+unfolding afterTiming
+counted-row s =
+    let e = exchangesOf s in
+    let n = countOf s in
+    record {
+      settings = refl;
+      clock = refl;
+      word = refl;
+      entries = refl;
+      id = refl;
+      one-more = next-below e n;
+      at-most = next-beyond e n;
+      fine = λ h. ap (stateTimed e) (timed-fine e n h) ∙ rw (eq-eqb e e refl);
+      coarse = λ h. ap (stateTimed e) (next-below e n (omega arith)) ∙ rw (ne-eqb (n + 1) e (λ same. omega arith));
+    }
+
+-- whether a reply counts, in plain terms
+counting : (s : Station) (u : Unit) → countsFor (s .own) u ≡ true → Counting s u
+counting s u e =
+    let w = both-true (isCoarse (stateOf s)) (bothCoarse (levelOf s) (u .level)) e in
+    let four = four-both _ _ (w .1) in
+    record { state = is-coarse (stateOf s) (w .0); own = four .0; sender = four .1 }
+
+pub counts-for : (s : Station) (u : Unit) → Counting s u → countsFor (s .own) u ≡ true
+counts-for s u c = rw (c .state, both-four _ _ (c .own) (c .sender))
 
 stays-held : (was : Bool) (t last : ℕ) → ((was && not (silent t last)) ≡ true) ↔ ((was ≡ true) × (t - last < 60))
 stays-held was t last = (
@@ -238,8 +296,18 @@ module _ (s : Station) (sized : Sized s) where
   message-row d g i e p Ppli m =
       let says = ppli-said (g .network .«message_type») (firstWord d) m in
       by-last (Tabled s (datagram d)) s 34 (eqb (unitAt s i .state) _) (answering 43 (afterPpli s i)) refl
-      (λ b. nothing (not-fine g i e p (inr says) (eqb-false _ _ b)))
+      (λ b. nothing (not-fine g i e p (inr (inl says)) (eqb-false _ _ b)))
       (λ b. positioned g i e p says (eqb-true _ _ b) (positioned-row s i sized (p .sender .there .place)))
+  message-row d g i e p Interrogation m = nothing (asked g i e p (ask-said (g .network .«message_type») (firstWord d) m))
+  message-row d g i e p TimingReply m =
+      let says = reply-said (g .network .«message_type») (firstWord d) m in
+      let u = unitAt s i in
+      by-last (Tabled s (datagram d)) s 34 (eqb (u .state) _) (cond (countsFor (s .own) u) (answering 47 (afterTiming s)) (answering 44 s)) refl
+      (λ b. nothing (not-fine g i e p (inr (inr says)) (eqb-false _ _ b)))
+      (λ b.
+      by-cond (Tabled s (datagram d)) (countsFor (s .own) u)
+      (λ c. counted g i e p says (eqb-true _ _ b) (counting s u c) (counted-row s))
+      (λ c. nothing (uncounted g i e p says (eqb-true _ _ b) (λ w. true≢false (sym (counts-for s u w) ∙ c)))))
   message-row d g i e p Other m =
       let says = other-said (g .network .«message_type») (firstWord d) m in
       by-last (Tabled s (datagram d)) s 35 (unitAt s i .inside && isFine (stateOf s)) (answering 44 s) refl

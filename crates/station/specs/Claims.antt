@@ -1,8 +1,9 @@
 -- What the station's theorems claim. Each is proved under its own name in small letters: OnlyByRules by only-by-rules, and so on.
 use Prim.Native.Nat.{ℕ, _+_, _-_, _/_, _%_, _<_, _≤_}
 use mathlib.Core.Path.{_≡_}
-use mathlib.Core.Bool.{true}
-use mathlib.Core.List.{List, _∷_}
+use mathlib.Core.Bool.{true, cond}
+use mathlib.Core.List.{List, [], _∷_}
+use lib.Dec.{eqb}
 use mathlib.Core.Logic.{_⊎_, _↔_}
 use Rattle.wire.specs.Bytes.{num}
 use Rattle.occupancy.specs.Places.{held}
@@ -12,36 +13,49 @@ use Rattle.pdu.specs.declared.Transmitter.{Transmitter}
 use Rattle.pdu.specs.declared.Signal.{Signal}
 use Rattle.pdu.specs.declared.Word.the-variants.{Absent, Here}
 use Rattle.pdu.specs.declared.Reading.the-variants.{Refused, Transmitter as aTransmitter}
-use Rattle.station.specs.Units.{levelOf, netOf, idOf, stateOf, clockOf, keyOf, made, stateNumber, unitAt, unitsHeld, seenOf, placeAt}
+use Rattle.station.specs.Units.{levelOf, netOf, exchangesOf, countOf, idOf, stateOf, clockOf, keyOf, made, stateNumber, unitAt, unitsHeld}
+use Rattle.station.specs.Units.{seenOf, placeAt}
 use Rattle.station.specs.Plain.{Sized, NoneBeyond, HeldAt, oneAt, Sender, Stranger, Clash}
 use Rattle.station.specs.Hearing.{answering, firstWord, heard}
 use Rattle.station.specs.Runs.{Call, datagram, called, after}
-use Rattle.station.specs.Table.{IsSignal, Passed, SaysJ00, Table}
+use Rattle.station.specs.Table.{IsSignal, Passed, SaysJ00, SaysReply, Counting, Table}
 use Rattle.station.specs.declared.State.the-variants.{Waiting, Coarse, Fine}
 use Rattle.station.specs.declared.Seen.the-variants.{Unknown, Known}
 use Rattle.station.specs.declared.Place.the-variants.{Free, Held}
+use Rattle.station.specs.declared.Settings.{Settings}
 use Rattle.station.specs.declared.Unit.{Unit}
 use Rattle.station.specs.declared.Station.{Station}
 
 -- ---- the maker, and keys
 
--- A station before its first call: ID 0, Waiting, clock 0, and sixteen places of which none is held.
-pub record Fresh (l n : ℕ) (s : Station) : Type 0 where
+-- A station before its first call: ID 0, count 0, Waiting, clock 0, and sixteen places of which none is held.
+pub record Fresh (l n e : ℕ) (s : Station) : Type 0 where
   pub level : levelOf s ≡ l
   pub net : netOf s ≡ n
+  pub exchanges : exchangesOf s ≡ e
+  pub count : countOf s ≡ 0
   pub id : idOf s ≡ 0
   pub state : stateOf s ≡ Waiting
   pub clock : clockOf s ≡ 0
   pub sized : Sized s
   pub empty : (i : ℕ) → HeldAt s i → ⊥
 
--- What the maker answers and gives: 37 and a station of level 0, net 0, or 0 and the station asked for.
-pub data MakerTable (level net : ℕ) : ℕ → Station → Type 0 where
-  refused : {s : Station} → (4 < level) ⊎ (127 < net) → Fresh 0 0 s → MakerTable level net 37 s
-  taken : {s : Station} → level ≤ 4 → net ≤ 127 → Fresh level net s → MakerTable level net 0 s
+-- What the maker answers and gives: 37 and a station of level 0, net 0 and 1 exchange, or 0 and the station asked for.
+pub data MakerTable (level net exchanges : ℕ) : ℕ → Station → Type 0 where
+  refused : {s : Station}
+      → (4 < level) ⊎ ((127 < net) ⊎ ((exchanges < 1) ⊎ (16 < exchanges)))
+      → Fresh 0 0 1 s
+      → MakerTable level net exchanges 37 s
+  taken : {s : Station}
+      → level ≤ 4
+      → net ≤ 127
+      → 1 ≤ exchanges
+      → exchanges ≤ 16
+      → Fresh level net exchanges s
+      → MakerTable level net exchanges 0 s
 
-abbrev pub MadeByRules : ℕ → ℕ → Type 0
-MadeByRules level net = MakerTable level net (made level net .answer) (made level net .station)
+abbrev pub MadeByRules : Settings → Type 0
+MadeByRules given = MakerTable (given .level) (given .net) (given .exchanges) (made given .answer) (made given .station)
 
 -- The four numbers of a key have two bytes each: so it is of every header that a program can hold.
 pub record TwoBytes (h : Header) : Type 0 where
@@ -165,12 +179,36 @@ pub record JoinsFine (s : Station) (c : Call) : Type 0 where
 abbrev pub Answered : ℕ → Station → Call → Type 0
 Answered n s c = called s c .answer ≡ n
 
--- The station is Coarse or Fine exactly if some call was a J0.0 that it took, which is exactly if some call was answered 42; and it is Fine
--- exactly if some such J0.0 met not both levels at 4. Proved by in-net-exactly-when of every station that the maker gives.
+-- The call is a timing reply that counts: a Signal of type 2 whose sender stands in a held place and is fine, on the station's net, its ID the
+-- station's or one of the two zero, while the station is Coarse and both levels are 4.
+pub record Counts (s : Station) (c : Call) : Type 0 where
+  pub bytes : List ℕ
+  pub signal : Signal
+  pub place : ℕ
+  pub call : c ≡ datagram bytes
+  pub read : IsSignal bytes signal
+  pub passed : Passed s signal place
+  pub says : SaysReply signal
+  pub fine : unitAt s place .state ≡ 3
+  pub counting : Counting s (unitAt s place)
+
+-- The station answers 47 exactly to such a reply.
+abbrev pub Answered47 : Station → Call → Type 0
+Answered47 s c = (called s c .answer ≡ 47) ↔ Counts s c
+
+-- How many calls of the list the station answers with this number.
+abbrev pub times : ℕ → Station → List Call → ℕ
+times n s [] = 0
+times n s (c ∷ cs) = cond (eqb (called s c .answer) n) 1 0 + times n (called s c .station) cs
+
+-- The station is Coarse or Fine exactly if some call was a J0.0 that it took, which is exactly if some call was answered 42. It is Fine
+-- exactly if some such J0.0 met not both levels at 4, or if as many calls counted as the station has exchanges: all of them since it became
+-- Coarse, as it counts in no other state and becomes Coarse once. Proved by in-net-exactly-when of every station that the maker gives.
 pub record InNet (s : Station) (calls : List Call) : Type 0 where
   pub in-net : (stateOf (after s calls) ≡ Waiting → ⊥) ↔ Some Joins s calls
   pub answered : (stateOf (after s calls) ≡ Waiting → ⊥) ↔ Some (Answered 42) s calls
-  pub fine : (stateOf (after s calls) ≡ Fine) ↔ Some JoinsFine s calls
+  pub fine : (stateOf (after s calls) ≡ Fine) ↔ (Some JoinsFine s calls ⊎ (times 47 s calls ≡ exchangesOf s))
+  pub count : countOf (after s calls) ≡ times 47 s calls
 
 -- The call is a Transmitter with this key.
 pub record Announces (key : ℕ) (s : Station) (c : Call) : Type 0 where
@@ -191,9 +229,10 @@ pub record Present (now : ℕ) (u : Unit) : Type 0 where
   pub inside : u .inside ≡ true → u .state ≡ 3
 
 -- What is true of every station that calls can reach: there are sixteen places and no place beyond them is held, no two held places have the
--- same key, and every unit that is held is as above. Proved by always-sound.
+-- same key, every unit that is held is as above, and while it is Coarse the count is below the number of exchanges. Proved by always-sound.
 pub record Sound (s : Station) : Type 0 where
   pub sized : Sized s
   pub word : NoneBeyond s
   pub distinct : (i j : ℕ) → HeldAt s i → HeldAt s j → unitAt s i .key ≡ unitAt s j .key → i ≡ j
   pub units : (i : ℕ) → HeldAt s i → Present (clockOf s) (unitAt s i)
+  pub counting : stateOf s ≡ Coarse → countOf s < exchangesOf s

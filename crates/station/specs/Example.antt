@@ -1,6 +1,7 @@
--- Two runs of one station, which show that what the theorems speak of happens. A unit is heard, its J0.0 and its PPLI are taken and its
+-- Three runs of one station, which show that what the theorems speak of happens. A unit is heard, its J0.0 and its PPLI are taken and its
 -- traffic is passed; it is held at 59 seconds and gone at 60. At level 4 on both sides the same J0.0 leaves the station Coarse, and traffic is
--- not passed.
+-- not passed. From there two timing replies, which is the station's number of exchanges, make it Fine; one before the J0.0 and an interrogation do not
+-- count.
 use Prim.Native.Nat.{ℕ, _*_}
 use mathlib.Core.Path.{_≡_}
 use mathlib.Core.List.{List, [], _∷_, _++_}
@@ -8,7 +9,7 @@ use lib.ListN.{replicate}
 use Rattle.pdu.specs.Forms.{bytesOf}
 use Rattle.pdu.specs.declared.Header.{Header}
 use Rattle.pdu.specs.declared.Reading.the-variants.{Transmitter, Signal}
-use Rattle.station.specs.Units.{idOf, stateOf, made}
+use Rattle.station.specs.Units.{countOf, idOf, stateOf, settingsOf, made}
 use Rattle.station.specs.Runs.{Call, datagram, time, after, answers}
 use Rattle.station.specs.declared.State.the-variants.{Coarse, Fine}
 
@@ -39,16 +40,34 @@ say label =
       network = record { npg = 0; net = 5; tsec = 255; msec = 255; «message_type» = 0; slot = 0; epoch = 0; time = 0 };
     }) 16) (replicate 15 0 ++ (label * 4 ∷ [])))
 
+-- a message of that unit in round-trip timing: 1 an interrogation, 2 a reply
+abbrev pub timing : ℕ → Call
+timing type =
+    datagram
+    (bytesOf (Signal (record {
+      header = header;
+      encoding = 0;
+      rate = 0;
+      samples = 0;
+      network = record { npg = 0; net = 5; tsec = 255; msec = 255; «message_type» = type; slot = 0; epoch = 0; time = 0 };
+    }) 6) (replicate 6 0))
+
 abbrev pub first-run : List Call
 first-run = say 0 ∷ unit 3 ∷ say 3 ∷ say 0 ∷ say 2 ∷ say 3 ∷ time 59 ∷ say 3 ∷ time 60 ∷ say 3 ∷ time 59 ∷ []
 
 abbrev pub second-run : List Call
 second-run = unit 4 ∷ say 0 ∷ say 2 ∷ say 3 ∷ unit 4 ∷ []
 
+abbrev pub third-run : List Call
+third-run = unit 4 ∷ timing 2 ∷ say 0 ∷ timing 2 ∷ timing 1 ∷ timing 2 ∷ timing 2 ∷ []
+
 -- the answers of each run, and the state that it ends in
 pub record ExampleRuns : Type 0 where
-  pub first-answers : answers (made 4 5 .station) first-run ≡ 31 ∷ 40 ∷ 35 ∷ 42 ∷ 43 ∷ 44 ∷ 46 ∷ 44 ∷ 46 ∷ 31 ∷ 36 ∷ []
-  pub first-state : stateOf (after (made 4 5 .station) first-run) ≡ Fine
-  pub first-id : idOf (after (made 4 5 .station) first-run) ≡ 9
-  pub second-answers : answers (made 4 5 .station) second-run ≡ 40 ∷ 42 ∷ 43 ∷ 35 ∷ 41 ∷ []
-  pub second-state : stateOf (after (made 4 5 .station) second-run) ≡ Coarse
+  pub first-answers : answers (made (settingsOf 4 5 2) .station) first-run ≡ 31 ∷ 40 ∷ 35 ∷ 42 ∷ 43 ∷ 44 ∷ 46 ∷ 44 ∷ 46 ∷ 31 ∷ 36 ∷ []
+  pub first-state : stateOf (after (made (settingsOf 4 5 2) .station) first-run) ≡ Fine
+  pub first-id : idOf (after (made (settingsOf 4 5 2) .station) first-run) ≡ 9
+  pub second-answers : answers (made (settingsOf 4 5 2) .station) second-run ≡ 40 ∷ 42 ∷ 43 ∷ 35 ∷ 41 ∷ []
+  pub second-state : stateOf (after (made (settingsOf 4 5 2) .station) second-run) ≡ Coarse
+  pub third-answers : answers (made (settingsOf 4 5 2) .station) third-run ≡ 40 ∷ 44 ∷ 42 ∷ 47 ∷ 44 ∷ 47 ∷ 44 ∷ []
+  pub third-state : stateOf (after (made (settingsOf 4 5 2) .station) third-run) ≡ Fine
+  pub third-count : countOf (after (made (settingsOf 4 5 2) .station) third-run) ≡ 2

@@ -1,5 +1,5 @@
--- What a datagram does to a station, and what the call answers. Answers are document 01's numbers: the reader's own, 30 to 35, and 40 to 44.
-use Prim.Native.Nat.{ℕ}
+-- What a datagram does to a station, and what the call answers. Answers are document 01's numbers: the reader's own, 30 to 35, 40 to 44, and 47.
+use Prim.Native.Nat.{ℕ, _+_}
 use mathlib.Core.Bool.{Bool, true, false, cond, not, _&&_, _||_}
 use mathlib.Core.List.{List, [], _∷_}
 use lib.Dec.{eqb, ltb}
@@ -13,9 +13,9 @@ use Rattle.pdu.specs.declared.Word.{Word}
 use Rattle.pdu.specs.declared.Word.the-variants.{Absent, Here}
 use Rattle.pdu.specs.declared.Reading.{Reading}
 use Rattle.pdu.specs.declared.Reading.the-variants.{Refused, Transmitter as aTransmitter, Signal as aSignal}
-use Rattle.pdu.specs.Numbers.{fine}
+use Rattle.pdu.specs.Numbers.{coarse, fine, interrogation, timingReply}
 use Rattle.station.specs.Numbers.{anyId, coarseLevel, ppliLabel}
-use Rattle.station.specs.Units.{netOf, idOf, stateOf, clockOf, withStanding, keyOf, unitAt, placeOf, known, withOwn, withUnit, withNew}
+use Rattle.station.specs.Units.{stateNumber, netOf, idOf, stateOf, clockOf, withStanding, keyOf, unitAt, placeOf, known, withOwn, withUnit, withNew}
 use Rattle.station.specs.declared.State.{State}
 use Rattle.station.specs.declared.State.the-variants.{Waiting, Coarse, Fine}
 use Rattle.station.specs.declared.Standing.{Standing}
@@ -24,7 +24,7 @@ use Rattle.station.specs.declared.Unit.{Unit}
 use Rattle.station.specs.declared.Station.{Station}
 use Rattle.station.specs.declared.Heard.{Heard}
 use Rattle.station.specs.declared.Message.{Message}
-use Rattle.station.specs.declared.Message.the-variants.{NetEntry, Ppli, Other}
+use Rattle.station.specs.declared.Message.the-variants.{NetEntry, Ppli, Interrogation, TimingReply, Other}
 
 -- an answer, and the station that the call leaves
 abbrev pub answering : ℕ → Station → Heard
@@ -96,10 +96,14 @@ signalRules s g =
 unfoldable pub labelled : ℕ → ℕ → Message
 labelled label sublabel = cond (eqb label 0 && eqb sublabel 0) NetEntry (cond (eqb label ppliLabel) Ppli Other)
 
--- what a Signal says, "by the first word of type 0 if it is initial"; "all else, no words and types 1 to 7 included"
+-- what a first word says, "by the first word of type 0 if it is initial"
+unfoldable pub wordSaying : ℕ → Word → Message
+wordSaying type Absent = Other
+wordSaying type (Here format label sublabel) = cond (eqb type 0 && eqb format 0) (labelled label sublabel) Other
+
+-- what a Signal says: round-trip timing by its type (02, R-1), all else by the first word; "all else, no words .. included"
 unfoldable pub messageOf : ℕ → Word → Message
-messageOf type Absent = Other
-messageOf type (Here format label sublabel) = cond (eqb type 0 && eqb format 0) (labelled label sublabel) Other
+messageOf type w = cond (eqb type interrogation) Interrogation (cond (eqb type timingReply) TimingReply (wordSaying type w))
 
 -- "If both levels are 4, Waiting becomes Coarse and other states stay; else the state becomes Fine"
 abbrev pub stateAfter : Bool → State → State
@@ -116,11 +120,19 @@ bothCoarse own sender = eqb own coarseLevel && eqb sender coarseLevel
 abbrev pub idAfter : ℕ → ℕ → ℕ
 idAfter own sender = cond (eqb own anyId) sender own
 
+-- 02, R-1: "The count is zero on entering Coarse"
+abbrev pub countJoined : Bool → State → ℕ → ℕ
+countJoined true Waiting count = 0
+countJoined true Coarse count = count
+countJoined true Fine count = count
+countJoined false state count = count
+
 -- where the station stands after a J0.0 from the sender u
 abbrev pub standingAfter : Own → Unit → Standing
 standingAfter own u =
     record {
       id = idAfter (own .standing .id) (u .id);
+      count = countJoined (bothCoarse (own .settings .level) (u .level)) (own .standing .state) (own .standing .count);
       state = stateAfter (bothCoarse (own .settings .level) (u .level)) (own .standing .state);
     }
 
@@ -143,6 +155,35 @@ isFine Waiting = false
 isFine Coarse = false
 isFine Fine = true
 
+-- whether it is Coarse
+abbrev pub isCoarse : State → Bool
+isCoarse state = eqb (stateNumber state) coarse
+
+-- 02, R-1: "While it is Coarse and its level 4, each type 2 message .. from a fine sender of level 4 counts one"
+abbrev pub countsFor : Own → Unit → Bool
+countsFor own u = isCoarse (own .standing .state) && bothCoarse (own .settings .level) (u .level)
+
+-- one more, up to the number of exchanges
+abbrev pub countNext : ℕ → ℕ → ℕ
+countNext exchanges count = cond (ltb count exchanges) (count + 1) exchanges
+
+-- "at that number the state becomes Fine"
+abbrev pub stateTimed : ℕ → ℕ → State
+stateTimed exchanges count = cond (eqb count exchanges) Fine Coarse
+
+-- where the station stands after a message that counts
+abbrev pub standingTimed : Own → Standing
+standingTimed own =
+    record {
+      id = own .standing .id;
+      count = countNext (own .settings .exchanges) (own .standing .count);
+      state = stateTimed (own .settings .exchanges) (countNext (own .settings .exchanges) (own .standing .count));
+    }
+
+-- the station after it
+unfoldable pub afterTiming : Station → Station
+afterTiming s = withOwn s (withStanding (s .own) (standingTimed (s .own)))
+
 -- 34: "unless the sender is fine"
 abbrev pub notFine : Unit → Refusal
 notFine u = 34 given-when not (eqb (u .state) fine)
@@ -155,6 +196,9 @@ notIn s u = 35 given-when not (u .inside && isFine (stateOf s))
 unfoldable pub hearMessage : Station → ℕ → Message → Heard
 hearMessage s i NetEntry = unless s (notFine (unitAt s i) ∷ []) (answering 42 (afterJ00 s (unitAt s i)))
 hearMessage s i Ppli = unless s (notFine (unitAt s i) ∷ []) (answering 43 (afterPpli s i))
+hearMessage s i TimingReply =
+    unless s (notFine (unitAt s i) ∷ []) (cond (countsFor (s .own) (unitAt s i)) (answering 47 (afterTiming s)) (answering 44 s))
+hearMessage s i Interrogation = answering 44 s
 hearMessage s i Other = unless s (notIn s (unitAt s i) ∷ []) (answering 44 s)
 
 -- a Signal and the first word of its body: "31", "32", "33", "Then, by the first word"

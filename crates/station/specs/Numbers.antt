@@ -8,6 +8,13 @@ lastLevel = 4
 abbrev pub lastNet : ℕ
 lastNet = 127
 
+-- 37: the fewest and the most exchanges of round-trip timing (02, R-1)
+abbrev pub fewestExchanges : ℕ
+fewestExchanges = 1
+
+abbrev pub mostExchanges : ℕ
+mostExchanges = 16
+
 -- one more than the most that each of the four numbers of a key can be: they have two bytes each
 abbrev pub keyPart : ℕ
 keyPart = 65536

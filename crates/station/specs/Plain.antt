@@ -64,6 +64,6 @@ IsJ00 type w = (type ≡ 0) × (w ≡ Here 0 0 0)
 abbrev pub IsPpli : ℕ → Word → Type 0
 IsPpli type w = (type ≡ 0) × ((sublabel : ℕ) × (w ≡ Here 0 2 sublabel))
 
--- All else.
+-- All else: no J0.0, no PPLI, and no round-trip timing, which is types 1 and 2.
 abbrev pub IsOther : ℕ → Word → Type 0
-IsOther type w = (IsJ00 type w → ⊥) × (IsPpli type w → ⊥)
+IsOther type w = (IsJ00 type w → ⊥) × (IsPpli type w → ⊥) × (type ≡ 1 → ⊥) × (type ≡ 2 → ⊥)

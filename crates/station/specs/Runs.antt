@@ -1,6 +1,8 @@
 -- A list of calls on one station, each taking the station that the last one left.
 use Prim.Native.Nat.{ℕ}
 use mathlib.Core.List.{List, [], _∷_}
+-- what a run that is computed opens of the places
+unfoldable pub use Rattle.occupancy.specs.Places.{least, wordOf}
 use Rattle.station.specs.Hearing.{heard}
 use Rattle.station.specs.Clock.{clocked}
 use Rattle.station.specs.declared.Station.{Station}

@@ -1,6 +1,6 @@
 -- The station's rules as one table of cases, in plain terms: for every station and every call, which row applies, what is answered, and
 -- everything that changes. The rows speak of places, keys, nets, IDs, levels and seconds only.
-use Prim.Native.Nat.{ℕ, _-_, _<_, _≤_}
+use Prim.Native.Nat.{ℕ, _+_, _-_, _<_, _≤_}
 use mathlib.Core.Path.{_≡_}
 use mathlib.Core.Bool.{true, false}
 use mathlib.Core.List.{List}
@@ -11,7 +11,7 @@ use Rattle.pdu.specs.Reading.{reading}
 use Rattle.pdu.specs.declared.Transmitter.{Transmitter}
 use Rattle.pdu.specs.declared.Signal.{Signal}
 use Rattle.pdu.specs.declared.Reading.the-variants.{Refused, Transmitter as aTransmitter, Signal as aSignal}
-use Rattle.station.specs.Units.{levelOf, netOf, idOf, stateOf, clockOf, keyOf, unitAt}
+use Rattle.station.specs.Units.{levelOf, netOf, exchangesOf, countOf, idOf, stateOf, clockOf, keyOf, unitAt}
 use Rattle.station.specs.Plain.{NoneBeyond, Sender, Stranger, LowestFree, Full, Agree, Clash, IsJ00, IsPpli, IsOther}
 use Rattle.station.specs.Hearing.{firstWord}
 use Rattle.station.specs.Runs.{Call, datagram, time}
@@ -40,6 +40,19 @@ SaysPpli d g = IsPpli (g .network .«message_type») (firstWord d)
 
 abbrev pub SaysOther : List ℕ → Signal → Type 0
 SaysOther d g = IsOther (g .network .«message_type») (firstWord d)
+
+-- It is round-trip timing: an interrogation (type 1), or a reply (type 2).
+abbrev pub SaysAsk : Signal → Type 0
+SaysAsk g = g .network .«message_type» ≡ 1
+
+abbrev pub SaysReply : Signal → Type 0
+SaysReply g = g .network .«message_type» ≡ 2
+
+-- Such a reply counts where the station is Coarse and both levels are 4.
+pub record Counting (s : Station) (u : Unit) : Type 0 where
+  pub state : stateOf s ≡ Coarse
+  pub own : levelOf s ≡ 4
+  pub sender : u .level ≡ 4
 
 -- ---- what a row says has changed
 
@@ -76,7 +89,7 @@ pub record Renewed (s : Station) (i : ℕ) (t : Transmitter) (s′ : Station) : 
   pub last : unitAt s′ i .last ≡ unitAt s i .last
 
 -- After a J0.0 from the sender u: a zero ID becomes the sender's; the state becomes Fine unless both levels are 4, where Waiting becomes
--- Coarse and other states stay. Nothing else changes.
+-- Coarse and other states stay; the count is zero where Waiting became Coarse. Nothing else changes.
 pub record Joined (s : Station) (u : Unit) (s′ : Station) : Type 0 where
   pub settings : s′ .own .settings ≡ s .own .settings
   pub clock : clockOf s′ ≡ clockOf s
@@ -87,6 +100,21 @@ pub record Joined (s : Station) (u : Unit) (s′ : Station) : Type 0 where
   pub coarse : levelOf s ≡ 4 → u .level ≡ 4 → stateOf s ≡ Waiting → stateOf s′ ≡ Coarse
   pub stays : levelOf s ≡ 4 → u .level ≡ 4 → (stateOf s ≡ Waiting → ⊥) → stateOf s′ ≡ stateOf s
   pub fine : (levelOf s ≡ 4 → u .level ≡ 4 → ⊥) → stateOf s′ ≡ Fine
+  pub count-zero : levelOf s ≡ 4 → u .level ≡ 4 → stateOf s ≡ Waiting → countOf s′ ≡ 0
+  pub count-kept : (levelOf s ≡ 4 → u .level ≡ 4 → stateOf s ≡ Waiting → ⊥) → countOf s′ ≡ countOf s
+
+-- After a reply that counts: the count is one more; where it reaches the number of exchanges the state becomes Fine, and below it the station
+-- stays Coarse. A count that is not below that number, which no call leaves while Coarse, becomes it. Nothing else changes.
+pub record Counted (s s′ : Station) : Type 0 where
+  pub settings : s′ .own .settings ≡ s .own .settings
+  pub clock : clockOf s′ ≡ clockOf s
+  pub word : s′ .used ≡ s .used
+  pub entries : s′ .units ≡ s .units
+  pub id : idOf s′ ≡ idOf s
+  pub one-more : countOf s < exchangesOf s → countOf s′ ≡ countOf s + 1
+  pub at-most : exchangesOf s ≤ countOf s → countOf s′ ≡ exchangesOf s
+  pub fine : exchangesOf s ≤ countOf s + 1 → stateOf s′ ≡ Fine
+  pub coarse : countOf s + 1 < exchangesOf s → stateOf s′ ≡ Coarse
 
 -- After a PPLI from the unit in place i: it is In and last heard now. Nothing else changes.
 pub record Positioned (s : Station) (i : ℕ) (s′ : Station) : Type 0 where
@@ -140,11 +168,11 @@ pub data Unchanged (s : Station) : Call → ℕ → Type 0 where
       → g .network .net ≡ netOf s
       → Clash (idOf s) (unitAt s i .id)
       → Unchanged s (datagram d) 33
-  -- a J0.0 or a PPLI from a sender that is not fine: 34
+  -- a J0.0, a PPLI or a timing reply from a sender that is not fine: 34
   not-fine : {d : List ℕ} (g : Signal) (i : ℕ)
       → IsSignal d g
       → Passed s g i
-      → SaysJ00 d g ⊎ SaysPpli d g
+      → SaysJ00 d g ⊎ (SaysPpli d g ⊎ SaysReply g)
       → (unitAt s i .state ≡ 3 → ⊥)
       → Unchanged s (datagram d) 34
   -- all else from a sender that is not In, or to a station that is not Fine: 35
@@ -161,6 +189,20 @@ pub data Unchanged (s : Station) : Call → ℕ → Type 0 where
       → SaysOther d g
       → unitAt s i .inside ≡ true
       → stateOf s ≡ Fine
+      → Unchanged s (datagram d) 44
+  -- a timing reply from a sender that is fine, which does not count: 44
+  uncounted : {d : List ℕ} (g : Signal) (i : ℕ)
+      → IsSignal d g
+      → Passed s g i
+      → SaysReply g
+      → unitAt s i .state ≡ 3
+      → (Counting s (unitAt s i) → ⊥)
+      → Unchanged s (datagram d) 44
+  -- an interrogation: 44
+  asked : {d : List ℕ} (g : Signal) (i : ℕ)
+      → IsSignal d g
+      → Passed s g i
+      → SaysAsk g
       → Unchanged s (datagram d) 44
   -- a clock that would go back: 36
   back : {t : ℕ} → t < clockOf s → Unchanged s (time t) 36
@@ -198,5 +240,14 @@ pub data Table (s : Station) : Call → ℕ → Station → Type 0 where
       → unitAt s i .state ≡ 3
       → Positioned s i s′
       → Table s (datagram d) 43 s′
+  -- a timing reply that counts, from a sender that is fine: 47
+  counted : {d : List ℕ} {s′ : Station} (g : Signal) (i : ℕ)
+      → IsSignal d g
+      → Passed s g i
+      → SaysReply g
+      → unitAt s i .state ≡ 3
+      → Counting s (unitAt s i)
+      → Counted s s′
+      → Table s (datagram d) 47 s′
   -- a clock: 46, and the silent units are removed
   ticked : {t : ℕ} {s′ : Station} → clockOf s ≤ t → Ticked s t s′ → Table s (time t) 46 s′

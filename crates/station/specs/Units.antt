@@ -6,9 +6,10 @@ use lib.Dec.{eqb, ltb}
 use Rattle.occupancy.specs.Places.{places, held, least, heldCount, withPlace}
 use Rattle.pdu.specs.Numbers.{coarse, fine}
 use Rattle.pdu.specs.declared.Header.{Header}
-use Rattle.station.specs.Numbers.{lastLevel, lastNet, keyPart}
+use Rattle.station.specs.Numbers.{lastLevel, lastNet, fewestExchanges, mostExchanges, keyPart}
 use Rattle.station.specs.declared.State.{State}
 use Rattle.station.specs.declared.State.the-variants.{Waiting, Coarse, Fine}
+use Rattle.station.specs.declared.Settings.{Settings}
 use Rattle.station.specs.declared.Standing.{Standing}
 use Rattle.station.specs.declared.Own.{Own}
 use Rattle.station.specs.declared.Unit.{Unit}
@@ -28,6 +29,13 @@ levelOf s = s .own .settings .level
 abbrev pub netOf : Station → ℕ
 netOf s = s .own .settings .net
 
+-- 02, R-1: "A station is made with a number of exchanges", and counts them
+abbrev pub exchangesOf : Station → ℕ
+exchangesOf s = s .own .settings .exchanges
+
+abbrev pub countOf : Station → ℕ
+countOf s = s .own .standing .count
+
 abbrev pub idOf : Station → ℕ
 idOf s = s .own .standing .id
 
@@ -44,10 +52,10 @@ withStanding own standing = record { clock = own .clock; standing = standing; se
 abbrev pub withClock : Own → ℕ → Own
 withClock own t = record { clock = t; standing = own .standing; settings = own .settings }
 
--- 01: "an ID (first 0), a state (first Waiting), a clock (first 0)"
-abbrev pub freshOwn : ℕ → ℕ → Own
-freshOwn level net =
-    record { clock = 0; standing = record { id = 0; state = Waiting }; settings = record { level = level; net = net } }
+-- 01: "an ID (first 0), a state (first Waiting), a clock (first 0)"; 02, R-1: the count of exchanges, first 0
+abbrev pub freshOwn : Settings → Own
+freshOwn settings =
+    record { clock = 0; standing = record { id = 0; count = 0; state = Waiting }; settings = settings }
 
 -- a number for each state: 01's synchronization states 2 and 3, and 0 for Waiting
 abbrev pub stateNumber : State → ℕ
@@ -62,15 +70,30 @@ abbrev pub blank : Unit
 blank = record { key = 0; last = 0; id = 0; level = 0; state = 0; inside = false }
 
 -- a fresh station: its own fields, and 16 places, all free
-unfoldable pub fresh : ℕ → ℕ → Station
-fresh level net = record { units = replicate places blank; own = freshOwn level net; used = 0 }
+unfoldable pub fresh : Settings → Station
+fresh settings = record { units = replicate places blank; own = freshOwn settings; used = 0 }
 
--- what the maker answers: 0; or 37, with a station of level 0, net 0
-unfoldable pub made : ℕ → ℕ → Made
-made level net =
-    cond (ltb lastLevel level || ltb lastNet net)
-    (record { station = fresh 0 0; answer = 37 })
-    (record { station = fresh level net; answer = 0 })
+-- what a maker is asked for
+abbrev pub settingsOf : ℕ → ℕ → ℕ → Settings
+settingsOf level net exchanges = record { level = level; net = net; exchanges = exchanges }
+
+-- 37: level, net, and the number of exchanges (02, R-1)
+abbrev pub wrongSettings : Settings → Bool
+wrongSettings settings =
+    ltb lastLevel (settings .level)
+    || ltb lastNet (settings .net)
+    || (ltb (settings .exchanges) fewestExchanges || ltb mostExchanges (settings .exchanges))
+
+-- the settings of the station that a refusal holds: "level 0, net 0", and 1 exchange
+abbrev pub leastSettings : Settings
+leastSettings = settingsOf 0 0 1
+
+-- what the maker answers: 0; or 37, with a station of the least settings
+unfoldable pub made : Settings → Made
+made settings =
+    cond (wrongSettings settings)
+    (record { station = fresh leastSettings; answer = 37 })
+    (record { station = fresh settings; answer = 0 })
 
 -- ---- places
 

@@ -31,3 +31,5 @@ pub(crate) const POSITIONED: u8 = 43;
 pub(crate) const PASSED: u8 = 44;
 
 pub(crate) const TIME_PASSED: u8 = 46;
+
+pub(crate) const COUNTED: u8 = 47;

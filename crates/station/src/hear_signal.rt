@@ -1,10 +1,11 @@
 // Hearing a Signal.
 ghost use mathlib.Core.Path.{_≡_};
-ghost use Rattle.station.specs.Hearing.{otherId, labelled, messageOf, idAfter, stateAfter, standingAfter, heardUnit, isFine};
+ghost use Rattle.station.specs.Hearing.{otherId, labelled, wordSaying, messageOf, idAfter, stateAfter, bothCoarse, countJoined};
+ghost use Rattle.station.specs.Hearing.{standingAfter, heardUnit, isFine, isCoarse, countsFor, countNext, stateTimed, standingTimed};
 ghost use Rattle.station.specs.Hearing.{hearMessage, hearSignal};
 ghost use Rattle.station.specs.Units.{keyOf};
 ghost use Rattle.station.specs.Parts.{Decides, DecidesFor};
-ghost use Rattle.station.specs.declared.Message.the-variants.{NetEntry, Ppli, Other};
+ghost use Rattle.station.specs.declared.Message.the-variants.{NetEntry, Ppli, Interrogation, TimingReply, Other};
 use crate::Message;
 use crate::Outcome;
 use crate::Own;
@@ -46,9 +47,9 @@ fn labelled_message(label: u8, sublabel: u8) -> Message
     Message::Other
 }
 
-// What a Signal says, by its message type and first word.
-fn message(kind: u8, word: Word) -> Message
-    ensures { λ r. ⌜ r ≡ messageOf kind word ⌝ }
+// What a first word says, by the message type.
+fn word_message(kind: u8, word: Word) -> Message
+    ensures { λ r. ⌜ r ≡ wordSaying kind word ⌝ }
 {
     match word {
         Word::Absent => Message::Other,
@@ -64,6 +65,19 @@ fn message(kind: u8, word: Word) -> Message
             }
         }
     }
+}
+
+// What a Signal says, by its message type and first word.
+fn message(kind: u8, word: Word) -> Message
+    ensures { λ r. ⌜ r ≡ messageOf kind word ⌝ }
+{
+    if kind == pdu::INTERROGATION {
+        return Message::Interrogation;
+    }
+    if kind == pdu::TIMING_REPLY {
+        return Message::TimingReply;
+    }
+    word_message(kind, word)
 }
 
 // The station's ID after a J0.0.
@@ -88,19 +102,40 @@ fn state_after(both: bool, state: State) -> State
     }
 }
 
+// The count of exchanges after a J0.0, by whether both levels are 4: it starts anew where the station becomes Coarse.
+fn count_joined(both: bool, state: State, count: u8) -> u8
+    ensures { λ r. ⌜ r ≡ countJoined both state count ⌝ }
+{
+    if both {
+        match state {
+            State::Waiting => 0,
+            State::Coarse => count,
+            State::Fine => count,
+        }
+    } else {
+        count
+    }
+}
+
+// Whether both levels are 4.
+fn both_coarse(own: u8, sender: u8) -> bool
+    ensures { λ r. ⌜ r ≡ bothCoarse own sender ⌝ }
+{
+    wire::both(own == COARSE_LEVEL, sender == COARSE_LEVEL)
+}
+
 // Where a station stands after a J0.0 from the sender.
 fn standing_after(own: Own, sender: Unit) -> Standing
     ensures { λ r. ⌜ r ≡ standingAfter own sender ⌝ }
 {
-    let both = wire::both(
-        own.settings.level == COARSE_LEVEL,
-        sender.level == COARSE_LEVEL,
-    );
+    let both = both_coarse(own.settings.level, sender.level);
     let was = own.standing;
     let state = was.state;
     let next = state_after(both, state);
+    let state = was.state;
     Standing {
         id: id_after(was.id, sender.id),
+        count: count_joined(both, state, was.count),
         state: next,
     }
 }
@@ -170,6 +205,96 @@ fn is_fine(state: State) -> bool
     }
 }
 
+// Whether a station's state is Coarse.
+fn is_coarse(state: State) -> bool
+    ensures { λ r. ⌜ r ≡ isCoarse state ⌝ }
+{
+    crate::state_number(state) == pdu::COARSE
+}
+
+// Whether a timing reply from the sender counts.
+fn counts(own: Own, sender: Unit) -> bool
+    ensures { λ r. ⌜ r ≡ countsFor own sender ⌝ }
+{
+    let standing = own.standing;
+    let state = standing.state;
+    let coarse = is_coarse(state);
+    wire::both(coarse, both_coarse(own.settings.level, sender.level))
+}
+
+// One more exchange, up to their number.
+fn count_next(exchanges: u8, count: u8) -> u8
+    ensures { λ r. ⌜ r ≡ countNext exchanges count ⌝ }
+{
+    if count < exchanges {
+        count + 1
+    } else {
+        exchanges
+    }
+}
+
+// The state at this count of exchanges.
+fn state_timed(exchanges: u8, count: u8) -> State
+    ensures { λ r. ⌜ r ≡ stateTimed exchanges count ⌝ }
+{
+    if count == exchanges {
+        State::Fine
+    } else {
+        State::Coarse
+    }
+}
+
+// Where a station stands after a timing reply that counts.
+fn standing_timed(own: Own) -> Standing
+    ensures { λ r. ⌜ r ≡ standingTimed own ⌝ }
+{
+    let was = own.standing;
+    let exchanges = own.settings.exchanges;
+    let count = count_next(exchanges, was.count);
+    Standing {
+        id: was.id,
+        count,
+        state: state_timed(exchanges, count),
+    }
+}
+
+// A timing reply from the part's unit: 34, 47 or 44.
+fn timing_reply(mut p: Part) -> Outcome
+    ensures { λ r. ⌜ Decides (λ s i. hearMessage s i TimingReply) p r ⌝ }
+{
+    let replier = p.unit;
+    if replier.state != pdu::FINE {
+        return Outcome {
+            part: p,
+            answer: answers::NOT_FINE,
+        };
+    }
+    let mut own = p.own;
+    if counts(own, replier) {
+        let standing = standing_timed(own);
+        own.standing = standing;
+        p.own = own;
+        return Outcome {
+            part: p,
+            answer: answers::COUNTED,
+        };
+    }
+    Outcome {
+        part: p,
+        answer: answers::PASSED,
+    }
+}
+
+// An interrogation from the part's unit: 44.
+fn interrogation(p: Part) -> Outcome
+    ensures { λ r. ⌜ Decides (λ s i. hearMessage s i Interrogation) p r ⌝ }
+{
+    Outcome {
+        part: p,
+        answer: answers::PASSED,
+    }
+}
+
 // All else from the part's unit: 35 or 44.
 fn other(p: Part) -> Outcome
     ensures { λ r. ⌜ Decides (λ s i. hearMessage s i Other) p r ⌝ }
@@ -196,11 +321,13 @@ fn taken(p: Part, m: Message) -> Outcome
     match m {
         Message::NetEntry => net_entry(p),
         Message::Ppli => ppli(p),
+        Message::Interrogation => interrogation(p),
+        Message::TimingReply => timing_reply(p),
         Message::Other => other(p),
     }
 }
 
-// A Signal and the first word of its body: 31 to 35, or 42 to 44.
+// A Signal and the first word of its body: 31 to 35, 42 to 44, or 47.
 pub(crate) fn signal(p: Part, g: Signal, word: Word) -> Outcome
     ensures { λ r. ⌜ DecidesFor (keyOf (g .header)) (λ s. hearSignal s g word) p r ⌝ }
 {

@@ -2,7 +2,8 @@
 // Every public call takes every station and every argument, and is promised as a whole answer and a whole station after it.
 ghost use mathlib.Core.Path.{_≡_};
 ghost use Rattle.pdu.specs.Reading.{reading};
-ghost use Rattle.station.specs.Units.{levelOf, netOf, idOf, stateOf, clockOf, keyOf, fresh, made, stateNumber, unitsHeld};
+ghost use Rattle.station.specs.Units.{levelOf, netOf, exchangesOf, countOf, idOf, stateOf, clockOf, keyOf, fresh, wrongSettings};
+ghost use Rattle.station.specs.Units.{settingsOf, made, stateNumber, unitsHeld};
 ghost use Rattle.station.specs.Units.{seenOf, placeAt};
 ghost use Rattle.station.specs.Hearing.{heard};
 ghost use Rattle.station.specs.Parts.{senderKey, DecidesFor};
@@ -18,6 +19,11 @@ mod pass_time;
 // How many units a station holds at most.
 pub const PLACES: usize = occupancy::PLACES;
 
+// How many exchanges of round-trip timing a station may be made with (request R-1).
+const FEWEST_EXCHANGES: u8 = 1;
+
+const MOST_EXCHANGES: u8 = 16;
+
 // Each of the four numbers of a key has two bytes.
 const KEY_PART: u64 = 65536;
 
@@ -32,11 +38,13 @@ pub enum State {
 pub struct Settings {
     level: u8,
     net: u8,
+    exchanges: u8,
 }
 
 // Where a station stands in the net.
 pub struct Standing {
     id: u32,
+    count: u8,
     state: State,
 }
 
@@ -80,7 +88,7 @@ struct Outcome {
     answer: u8,
 }
 
-// What the maker answers: 0, or 37 with a station of level 0, net 0.
+// What the maker answers: 0, or 37 with a station of level 0, net 0 and 1 exchange.
 pub struct Made {
     pub station: Station,
     pub answer: u8,
@@ -92,10 +100,12 @@ pub struct Heard {
     pub answer: u8,
 }
 
-// What a Signal says to a station: J0.0, a PPLI, or all else.
+// What a Signal says to a station: J0.0, a PPLI, round-trip timing (request R-1), or all else.
 pub enum Message {
     NetEntry,
     Ppli,
+    Interrogation,
+    TimingReply,
     Other,
 }
 
@@ -111,13 +121,13 @@ pub enum Place {
     Held(Unit),
 }
 
-// A station before its first call.
-fn fresh_station(level: u8, net: u8) -> Station
-    ensures { λ r. ⌜ r ≡ fresh level net ⌝ }
+// A station of these settings before its first call.
+fn fresh_station(settings: Settings) -> Station
+    ensures { λ r. ⌜ r ≡ fresh settings ⌝ }
 {
-    let settings = Settings { level, net };
     let standing = Standing {
         id: 0,
+        count: 0,
         state: State::Waiting,
     };
     let own = Own {
@@ -141,18 +151,42 @@ fn fresh_station(level: u8, net: u8) -> Station
     }
 }
 
-// Makes a station of this level and net; 37 where the level is above 4 or the net above 127.
-pub fn new(level: u8, net: u8) -> Made
-    ensures { λ r. ⌜ r ≡ made level net ⌝ }
+// Whether refusal 37 applies to these settings.
+fn wrong_settings(settings: Settings) -> bool
+    ensures { λ r. ⌜ r ≡ wrongSettings settings ⌝ }
 {
-    if wire::either(pdu::LAST_LEVEL < level, pdu::LAST_NET < net) {
+    let asked = settings.exchanges;
+    let net = wire::either(
+        pdu::LAST_LEVEL < settings.level,
+        pdu::LAST_NET < settings.net,
+    );
+    let exchanges = wire::either(asked < FEWEST_EXCHANGES, MOST_EXCHANGES < asked);
+    wire::either(net, exchanges)
+}
+
+// Makes a station of this level and net, with this number of exchanges of round-trip timing; 37 where the level is above 4, the net above 127,
+// or the exchanges are not 1 to 16.
+pub fn new(level: u8, net: u8, exchanges: u8) -> Made
+    ensures { λ r. ⌜ r ≡ made (settingsOf level net exchanges) ⌝ }
+{
+    let settings = Settings {
+        level,
+        net,
+        exchanges,
+    };
+    if wrong_settings(settings) {
+        let least = Settings {
+            level: 0,
+            net: 0,
+            exchanges: FEWEST_EXCHANGES,
+        };
         return Made {
-            station: fresh_station(0, 0),
+            station: fresh_station(least),
             answer: answers::BAD_SETTINGS,
         };
     }
     Made {
-        station: fresh_station(level, net),
+        station: fresh_station(settings),
         answer: answers::MADE,
     }
 }
@@ -173,7 +207,7 @@ fn outcome_of(part: Part, read: Reading, datagram: &[u8]) -> Outcome
     }
 }
 
-// The station's call on a datagram: the reader's number, 30 to 35, or 40 to 44. The sender is looked for here: to hand the entries to a function
+// The station's call on a datagram: the reader's number, 30 to 35, 40 to 44, or 47. The sender is looked for here: to hand the entries to a function
 // would copy them.
 pub fn hear(station: Station, datagram: &[u8]) -> Heard
     ensures { λ r. ⌜ r ≡ heard station (now (datagram .entry)) ⌝ }
@@ -264,6 +298,19 @@ pub fn net_of(station: Station) -> u8
     ensures { λ r. ⌜ r ≡ netOf station ⌝ }
 {
     station.own.settings.net
+}
+
+// How many exchanges of round-trip timing make the station Fine, and how many it has counted.
+pub fn exchanges_of(station: Station) -> u8
+    ensures { λ r. ⌜ r ≡ exchangesOf station ⌝ }
+{
+    station.own.settings.exchanges
+}
+
+pub fn count_of(station: Station) -> u8
+    ensures { λ r. ⌜ r ≡ countOf station ⌝ }
+{
+    station.own.standing.count
 }
 
 pub fn id_of(station: Station) -> u32

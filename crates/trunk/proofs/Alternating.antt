@@ -14,6 +14,7 @@ use native.Mathlib.Omega.{arith}
 use borrow.Author.Tests.{ltb-true, ltb-false}
 use Rattle.station.specs.Units.{made}
 use Rattle.station.specs.declared.Station.{Station}
+use Rattle.station.specs.declared.Settings.{Settings}
 use Rattle.trunk.specs.Head.{headSize}
 use Rattle.trunk.specs.Kinds.{longestPdu}
 use Rattle.trunk.specs.Line.{Entry, offer-made, send-made, reply-heard, record-heard, clock-set, Call, Line, start, step, run, accepted}
@@ -113,16 +114,16 @@ module _ (station : Station) (reply out : List ℕ) (fits : headSize ≤ length 
 
 -- From every line that a fair list reached, with lent buffers of any content that have room, eight turns at most put out everything accepted.
 pub alternating-delivers :
-    (level net : ℕ) (store : List ℕ) (calls : List Call)
-    → Fair (start level net store) calls
+    (settings : Settings) (store : List ℕ) (calls : List Call)
+    → Fair (start settings store) calls
     → (reply out : List ℕ)
     → 5 ≤ length reply
     → 180 ≤ length out
-    → Delivers (run (start level net store) calls) (alternating 8 (run (start level net store) calls) reply out)
+    → Delivers (run (start settings store) calls) (alternating 8 (run (start settings store) calls) reply out)
 unfolding Always
-alternating-delivers level net store calls fair reply out fits room =
-    let station : Station = made level net .station in
-    let d = demand3 level net store calls fair in
-    delivers station reply out fits room _ (run (start level net store) calls)
-    (always-after station (start level net store) calls fair (demand3 level net store))
+alternating-delivers settings store calls fair reply out fits room =
+    let station : Station = made settings .station in
+    let d = demand3 settings store calls fair in
+    delivers station reply out fits room _ (run (start settings store) calls)
+    (always-after station (start settings store) calls fair (demand3 settings store))
     (omega (arith, d .window, d .acknowledged-put-out))

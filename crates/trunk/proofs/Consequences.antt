@@ -11,6 +11,7 @@ use lib.Seq.{getD-take}
 use native.Mathlib.Omega.{arith}
 use Rattle.pdu.specs.Writing.{paddingZero}
 use Rattle.station.specs.Runs.{Call as StationCall, datagram, time}
+use Rattle.station.specs.declared.Settings.{Settings}
 use Rattle.trunk.specs.Line.{Entry, offer-made, send-made, reply-heard, record-heard, clock-set, Call, offer, send, to-near, to-far, tick}
 use Rattle.trunk.specs.Line.{Line, start, step, run, accepted, putOut, putOutBy, events, eventsBy, Fair}
 use Rattle.trunk.specs.Demand.{given, givenBy, count}
@@ -119,12 +120,12 @@ in-part p n l m = subst (List·Memᴰ p) (take-append-drop n l) (Memᴰ·append-
 -- ---- what demand 3 means for the box
 
 offered-before :
-    (level net : ℕ) (store : List ℕ) (calls : List Call) (p : List ℕ)
-    → List·Memᴰ p (map paddingZero (given (run (start level net store) calls .log)))
-    → WasOffered p calls (run (start level net store) calls .log)
+    (settings : Settings) (store : List ℕ) (calls : List Call) (p : List ℕ)
+    → List·Memᴰ p (map paddingZero (given (run (start settings store) calls .log)))
+    → WasOffered p calls (run (start settings store) calls .log)
 unfolding Came InList
-offered-before level net store calls p m =
-    let begin : Line = start level net store in
+offered-before settings store calls p m =
+    let begin : Line = start settings store in
     let c = came p (run begin calls .log) m in
     record {
       given = c .0;
@@ -136,12 +137,12 @@ offered-before level net store calls p m =
     }
 
 pub consequences :
-    (level net : ℕ) (store : List ℕ) (calls : List Call)
-    → Fair (start level net store) calls
-    → Consequences calls (run (start level net store) calls)
-consequences level net store calls fair =
-    let l : Line = run (start level net store) calls in
-    let d = demand3 level net store calls fair in
+    (settings : Settings) (store : List ℕ) (calls : List Call)
+    → Fair (start settings store) calls
+    → Consequences calls (run (start settings store) calls)
+consequences settings store calls fair =
+    let l : Line = run (start settings store) calls in
+    let d = demand3 settings store calls fair in
     let all : List (List ℕ) = accepted (l .log) in
     record {
       heard-once = all-heard (l .log) ∙ d .in-order;
@@ -149,6 +150,6 @@ consequences level net store calls fair =
           ap (λ (x : List (List ℕ)). getD x i []) (d .in-order)
           ∙ getD-take (count (l .log)) all i [] (omega (arith, d .near-acknowledged, d .acknowledged-put-out));
       only-offered = λ p m.
-          offered-before level net store calls p
+          offered-before settings store calls p
           (in-part p (count (l .log)) (map paddingZero (given (l .log))) (subst (List·Memᴰ p) (d .padding-zero) m));
     }

@@ -14,6 +14,7 @@ use Rattle.station.specs.Runs.{datagram, time}
 use Rattle.station.specs.Hearing.{heard}
 use Rattle.station.specs.Units.{made}
 use Rattle.station.specs.declared.Station.{Station}
+use Rattle.station.specs.declared.Settings.{Settings}
 use Rattle.trunk.specs.Head.{headSize}
 use Rattle.trunk.specs.Kinds.{recordSize}
 use Rattle.trunk.specs.Record.{replyOf, numberIn, carriedIn}
@@ -163,8 +164,8 @@ pub run-stands : {station : Station} (l : Line) (calls : List Call) → Fair l c
 run-stands l [] f s = s
 run-stands l (c ∷ cs) f s = run-stands (step l c) cs (f .1) (step-stands l c (f .0) s)
 
-pub start-stands : (level net : ℕ) (store : List ℕ) → StandsAt (made level net .station) (start level net store)
-start-stands level net store =
+pub start-stands : (settings : Settings) (store : List ℕ) → StandsAt (made settings .station) (start settings store)
+start-stands settings store =
     record {
       holds =
           record {
@@ -218,9 +219,9 @@ stands-demand l s =
 
 -- for every fair list of calls, from a fresh near end, any store, and a fresh far end, its station of any settings
 pub demand3 :
-    (level net : ℕ) (store : List ℕ) (calls : List Call)
-    → Fair (start level net store) calls
-    → Demand3 (made level net .station) (run (start level net store) calls)
-demand3 level net store calls fair =
-    let begin : Line = start level net store in
-    stands-demand (run begin calls) (run-stands begin calls fair (start-stands level net store))
+    (settings : Settings) (store : List ℕ) (calls : List Call)
+    → Fair (start settings store) calls
+    → Demand3 (made settings .station) (run (start settings store) calls)
+demand3 settings store calls fair =
+    let begin : Line = start settings store in
+    stands-demand (run begin calls) (run-stands begin calls fair (start-stands settings store))

@@ -19,6 +19,14 @@ use Rattle.pdu.specs.Forms.{bytesOf}
 use Rattle.pdu.specs.Reading.{transmitterOf, signalOf, content, wrongType, wrongLength, wrongFixed, wrongBits, startRules, transmitterLayout}
 use Rattle.pdu.specs.Reading.{signalLayout, readingRules, refusal, reading}
 use Rattle.pdu.specs.Writing.{writtenForm, inWrittenForm}
+use Rattle.pdu.specs.Words.{wordAt}
+use Rattle.station.specs.Runs.{least, wordOf}
+use Rattle.station.specs.Units.{stateOf, fresh, settingsOf, placeOf}
+use Rattle.station.specs.Hearing.{enter, renew, hearTransmitter, otherId, signalRules as stationRules, labelled, wordSaying, messageOf, afterJ00}
+use Rattle.station.specs.Hearing.{afterTiming, afterPpli, hearMessage, hearSignal, step as station-step, heard}
+use Rattle.station.specs.Clock.{atTime, clocked}
+use Rattle.station.specs.declared.State.the-variants.{Fine}
+use Rattle.station.specs.declared.Settings.{Settings}
 use Rattle.station.specs.Units.{made}
 use Rattle.trunk.specs.Kinds.{load, longestPdu}
 use Rattle.trunk.specs.Record.{headFor, recordOf, replyOf, unknownKind, wrongSize, isReply, lastOfAll, wrongCarried, formRules, pduRules}
@@ -108,13 +116,13 @@ zeros n = replicate n 0
 unfoldable pub start-of : ℕ → ℕ → List ℕ
 start-of type size = (6 ∷ 1 ∷ type ∷ 4 ∷ zeros 4) ++ big 2 size ++ (0 ∷ 0 ∷ 0 ∷ 1 ∷ 0 ∷ 2 ∷ 0 ∷ 3 ∷ 0 ∷ 4 ∷ [])
 
--- the unit's Transmitter: level 2, in fine synchronization
+-- the unit's Transmitter: level 4, in fine synchronization
 unfoldable pub unit : List ℕ
 unit =
     start-of 25 112
     ++ (zeros 4 ++ (21 ∷ zeros 4 ++ (8 ∷ zeros 60)))
     ++ (0 ∷ 7 ∷ 0 ∷ 0 ∷ 0 ∷ 8 ∷ zeros 4 ++ (8 ∷ zeros 3))
-    ++ (2 ∷ 1 ∷ 0 ∷ 3 ∷ zeros 4)
+    ++ (4 ∷ 1 ∷ 0 ∷ 3 ∷ zeros 4)
 
 -- its type 0 Signal on net 0 with so many words, whose bytes are given; of no words where there are none
 unfoldable pub signal : ℕ → List ℕ → ℕ → List ℕ
@@ -124,38 +132,43 @@ signal size words fill =
     ++ zeros 20
     ++ (zeros 6 ++ words ++ zeros fill)
 
--- a J0.0, a PPLI, and an order without words
+-- a J0.0, and an order without words
 unfoldable pub entry-message : List ℕ
 entry-message = signal 68 (zeros 10) 0
-
-unfoldable pub ppli : List ℕ
-ppli = signal 68 (zeros 9 ++ (8 ∷ [])) 0
 
 unfoldable pub order : List ℕ
 order = signal 60 [] 2
 
+-- its timing reply, a Signal of type 2, whose first two body bytes are given: the padding inside the body, and three bits of the field
+unfoldable pub timing : ℕ → ℕ → List ℕ
+timing a b =
+    start-of 26 60
+    ++ (big 2 16384 ++ big 2 100 ++ zeros 4 ++ big 2 208 ++ zeros 2)
+    ++ (zeros 5 ++ (2 ∷ zeros 14))
+    ++ (a ∷ b ∷ 1 ∷ 2 ∷ 3 ∷ 4 ∷ zeros 2)
+
 -- ---- the calls
 
--- what a call answered; a delivery's by its size, and a clock call's not at all: those are the station's own
+-- what a call answered: a delivery its size and the station's answer
 pub data Said : Type 0 where
   offer-said : Offer → Said
   send-said : Sent → Said
   reply-said : Reply → Said
   refused-at-far : ℕ → Said
-  delivered-size : ℕ → Said
+  delivered-said : ℕ → ℕ → Said
   repeat-said : Said
   early-said : Said
-  clock-said : Said
+  clock-said : ℕ → Said
 
 unfoldable pub said : Entry → Said
 said (offer-made d a store) = offer-said a
 said (send-made i a out) = send-said a
 said (reply-heard r a) = reply-said a
 said (record-heard r (arrivalRefused n) reply out) = refused-at-far n
-said (record-heard r (Delivered size answer) reply out) = delivered-size size
+said (record-heard r (Delivered size answer) reply out) = delivered-said size answer
 said (record-heard r Repeat reply out) = repeat-said
 said (record-heard r Early reply out) = early-said
-said (clock-set t a) = clock-said
+said (clock-set t a) = clock-said a
 
 -- a send into a buffer, and an arrival at the far end, with room
 unfoldable pub sending : ℕ → Call
@@ -170,8 +183,9 @@ record-0 = recordOf (headFor 16 0) unit
 unfoldable pub record-1 : List ℕ
 record-1 = recordOf (headFor 1 1) entry-message
 
+-- with the padding zero that the datagram offered has not
 unfoldable pub record-2 : List ℕ
-record-2 = recordOf (headFor 1 2) ppli
+record-2 = recordOf (headFor 18 2) (timing 0 5)
 
 -- each call with its answer
 unfoldable pub story : List (Call × Said)
@@ -179,25 +193,25 @@ story =
     (offer unit, offer-said (Taken 0))
     ∷ (offer (zeros 11), offer-said (offerRefused 1))
     ∷ (offer entry-message, offer-said (Taken 1))
-    ∷ (offer ppli, offer-said (Taken 2))
+    ∷ (offer (timing 255 253), offer-said (Taken 2))
     ∷ (offer order, offer-said (Taken 3))
     ∷ (sending 1, send-said (Size 73))
     ∷ (arriving record-1, early-said)  -- number 1 before number 0; its reply is lost
     ∷ (send 0 (zeros 116), send-said (sendRefused 16))
     ∷ (sending 0, send-said (Size 117))
-    ∷ (arriving record-0, delivered-size 112)
+    ∷ (arriving record-0, delivered-said 112 40)
     ∷ (arriving record-0, repeat-said)  -- the same record again
-    ∷ (tick 30, clock-said)
-    ∷ (arriving record-1, delivered-size 68)
+    ∷ (tick 30, clock-said 46)
+    ∷ (arriving record-1, delivered-said 68 42)  -- both levels are 4: the station is Coarse
     ∷ (to-near (replyOf 2), reply-said (Acknowledged 2))
     ∷ (to-near (replyOf 1), reply-said (Acknowledged 2))  -- a late reply
     ∷ (to-near record-0, reply-said (replyRefused 29))
     ∷ (sending 0, send-said (sendRefused 26))
-    ∷ (sending 2, send-said (Size 73))
+    ∷ (sending 2, send-said (Size 65))
     ∷ (to-far record-2 (zeros 4) (zeros 180), refused-at-far 16)  -- no room for the reply
-    ∷ (arriving record-2, delivered-size 68)  -- handed over again, with room; its reply is lost
+    ∷ (arriving record-2, delivered-said 60 47)  -- handed over again, with room: it counts, and the station is Fine; its reply is lost
     ∷ (sending 3, send-said (Size 65))  -- lost: it never arrives
-    ∷ (tick 20, clock-said)
+    ∷ (tick 20, clock-said 36)
     ∷ []
 
 abbrev pub calls-of : List (Call × Said) → List Call
@@ -208,9 +222,12 @@ abbrev pub answers-of : List (Call × Said) → List Said
 answers-of [] = []
 answers-of (x ∷ xs) = x .1 ∷ answers-of xs
 
--- from a store with whatever it held, and a station of level 2, net 0
+-- from a store with whatever it held, and a station of level 4, net 0, 1 exchange
+abbrev pub settings : Settings
+settings = settingsOf 4 0 1
+
 unfoldable pub before : Line
-before = start 2 0 (replicate storeSize 255)
+before = start settings (replicate storeSize 255)
 
 unfoldable pub after-all : Line
 after-all = run before (calls-of story)
@@ -222,21 +239,26 @@ computed :
     × (length (accepted (after-all .log)) ≡ 4)
     × (count (after-all .log) ≡ 3)
     × (acknowledged (after-all .log) ≡ 2)
-unfolding fair allowed among same said story before after-all sending arriving record-0 record-1 record-2 unit entry-message ppli order
-    signal start-of zeros offered storeAfter offerRulesOf sent sentOut sendRules replied replyRules arrived isNext countAfter replyAfter
+    × (stateOf (after-all .far .station) ≡ Fine)
+unfolding fair allowed among same said story before after-all sending arriving record-0 record-1 record-2 unit entry-message order
+    signal timing start-of zeros offered storeAfter offerRulesOf sent sentOut sendRules replied replyRules arrived isNext countAfter replyAfter
     outputAfter arrivalRules ticked recordOf load unknownKind wrongSize isReply lastOfAll wrongCarried formRules pduRules wrongVersion
     wrongType wrongLength wrongFixed wrongSync wrongBits networkRules bodyRules readingRules refusal content reading transmitterOf
-    signalOf writtenForm inWrittenForm accessRules slotRules innerRules bodySlots bytesOf startRules transmitterLayout signalLayout
-computed = (refl, refl, refl, refl, refl)
+    signalOf writtenForm inWrittenForm accessRules slotRules innerRules bodySlots bytesOf startRules transmitterLayout signalLayout wordAt
+    least wordOf fresh made placeOf enter renew hearTransmitter otherId stationRules labelled wordSaying messageOf afterJ00 afterTiming afterPpli
+    hearMessage hearSignal station-step heard atTime clocked
+computed = (refl, refl, refl, refl, refl, refl)
 
--- the list is fair, so demand 3 speaks of it; each call answers as its line says; four PDUs are accepted, three put out, two acknowledged
+-- the list is fair, so demand 3 speaks of it; each call answers as its line says; four PDUs are accepted, three put out, two acknowledged; the far
+-- station is Fine by a timing reply
 pub record Example : Type 0 where
   pub fairly : Fair before (calls-of story)
   pub answered : collect (λ (e : Entry). said e ∷ []) (after-all .log) ≡ answers-of story
   pub four-accepted : length (accepted (after-all .log)) ≡ 4
   pub three-put-out : count (after-all .log) ≡ 3
   pub two-acknowledged : acknowledged (after-all .log) ≡ 2
-  pub demand : Demand3 (made 2 0 .station) after-all
+  pub fine : stateOf (after-all .far .station) ≡ Fine
+  pub demand : Demand3 (made settings .station) after-all
 
 pub example : Example
 unfolding before after-all
@@ -248,5 +270,6 @@ example =
       four-accepted = computed .2;
       three-put-out = computed .3;
       two-acknowledged = computed .4;
-      demand = demand3 2 0 (replicate storeSize 255) (calls-of story) fairly;
+      fine = computed .5;
+      demand = demand3 settings (replicate storeSize 255) (calls-of story) fairly;
     }

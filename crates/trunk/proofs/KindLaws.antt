@@ -12,9 +12,9 @@ use native.Mathlib.Omega.{arith}
 use borrow.Author.Tests.{eqb-true, eqb-false, ne-eqb, leb-true, leb-false, le-leb}
 use Rattle.wire.proofs.TableLaws.{both-true}
 use Rattle.trunk.specs.Head.{headSize}
-use Rattle.trunk.specs.Kinds.{KindRow, signals, transmitters, replies, inRow, load, loadSize, recordSize, longestPdu, longestRecord}
-use Rattle.trunk.specs.Kinds.{isUnknown, isNothing}
-use Rattle.trunk.specs.Plain.{KnownKind, KindCarries, signal, transmitter, reply, none, signalLengths, otherLength, plainLength, ReplyKind}
+use Rattle.trunk.specs.Kinds.{KindRow, signals, transmitters, interrogations, timingReplies, replies, inRow, load, loadSize, recordSize}
+use Rattle.trunk.specs.Kinds.{longestPdu, longestRecord, isUnknown, isNothing}
+use Rattle.trunk.specs.Plain.{KnownKind, KindCarries, signal, transmitter, ask, answer, reply, none, signalLengths, plainLength, ReplyKind}
 use Rattle.trunk.specs.declared.Load.{Load}
 use Rattle.trunk.specs.declared.Load.the-variants.{Words}
 
@@ -30,20 +30,28 @@ outside row kind out = by (leb (row .first) kind) (leb kind (row .last)) refl re
     by false b e f = refl
 
 -- a kind that is none of those named is unknown
-pub unlisted : {kind : ℕ} → (kind ≤ 12 → ⊥) → kind ≢ 16 → kind ≢ 32 → ¬ KnownKind kind
-unlisted over a b = elim [ inl few ↦ over few | inr x ↦ elim x [ inl same ↦ a same | inr same ↦ b same ] ]
+pub unlisted : {kind : ℕ} → (kind ≤ 12 → ⊥) → kind ≢ 16 → kind ≢ 17 → kind ≢ 18 → kind ≢ 32 → ¬ KnownKind kind
+unlisted over a b c d (inl few) = over few
+unlisted over a b c d (inr (inl same)) = a same
+unlisted over a b c d (inr (inr (inl same))) = b same
+unlisted over a b c d (inr (inr (inr (inl same)))) = c same
+unlisted over a b c d (inr (inr (inr (inr same)))) = d same
 
 -- the table says what the plain statement says
 pub load-is : {kind : ℕ} {l : Load} → KindCarries kind l → load kind ≡ l
 unfolding load
 load-is {kind} (signal few) = rw (le-leb 0 kind (omega arith), le-leb kind _ few) (ap Words (omega arith))
 load-is (transmitter e) = ap load e
+load-is (ask e) = ap load e
+load-is (answer e) = ap load e
 load-is (reply e) = ap load e
 load-is {kind} (none unknown) =
     rw (
       outside signals kind (λ least most. unknown (inl most)),
       outside transmitters kind (λ least most. unknown (inr (inl (omega arith)))),
-      outside replies kind (λ least most. unknown (inr (inr (omega arith)))),
+      outside interrogations kind (λ least most. unknown (inr (inr (inl (omega arith))))),
+      outside timingReplies kind (λ least most. unknown (inr (inr (inr (inl (omega arith)))))),
+      outside replies kind (λ least most. unknown (inr (inr (inr (inr (omega arith)))))),
     )
 
 -- and that one says something of every kind
@@ -67,12 +75,14 @@ equals m n = by (eqb m n) refl
     by false e = inr (eqb-false m n e)
 
 known-or-not : (kind : ℕ) → KnownKind kind ⊎ ¬ KnownKind kind
-known-or-not kind = or-not (up-to kind _) (or-not (equals kind _) (equals kind _))
+known-or-not kind = or-not (up-to kind _) (or-not (equals kind _) (or-not (equals kind _) (or-not (equals kind _) (equals kind _))))
 
 stated : (kind : ℕ) → KnownKind kind ⊎ ¬ KnownKind kind → (l : Load) × KindCarries kind l
 stated kind (inl (inl few)) = (_, signal few)
 stated kind (inl (inr (inl same))) = (_, transmitter same)
-stated kind (inl (inr (inr same))) = (_, reply same)
+stated kind (inl (inr (inr (inl same)))) = (_, ask same)
+stated kind (inl (inr (inr (inr (inl same))))) = (_, answer same)
+stated kind (inl (inr (inr (inr (inr same))))) = (_, reply same)
 stated kind (inr unknown) = (_, none unknown)
 
 pub carries : (kind : ℕ) → KindCarries kind (load kind)
@@ -87,7 +97,9 @@ known-says kind = by (carries kind)
     by : {l : Load} → KindCarries kind l → (isUnknown l ≡ false) ↔ KnownKind kind
     by (signal few) = (λ e. inl few, λ k. refl)
     by (transmitter same) = (λ e. inr (inl same), λ k. refl)
-    by (reply same) = (λ e. inr (inr same), λ k. refl)
+    by (ask same) = (λ e. inr (inr (inl same)), λ k. refl)
+    by (answer same) = (λ e. inr (inr (inr (inl same))), λ k. refl)
+    by (reply same) = (λ e. inr (inr (inr (inr same))), λ k. refl)
     by (none unknown) = (λ e. absurd (true≢false e), λ k. absurd (unknown k))
 
 -- 29: one kind is a reply's, and no other
@@ -97,8 +109,10 @@ reply-says kind = by (carries kind)
     by : {l : Load} → KindCarries kind l → (isNothing l ≡ true) ↔ ReplyKind kind
     by (signal few) = (λ e. absurd (false≢true e), λ same. absurd (omega arith))
     by (transmitter is) = (λ e. absurd (false≢true e), λ same. absurd (omega arith))
+    by (ask is) = (λ e. absurd (false≢true e), λ same. absurd (omega arith))
+    by (answer is) = (λ e. absurd (false≢true e), λ same. absurd (omega arith))
     by (reply same) = (λ e. same, λ k. refl)
-    by (none unknown) = (λ e. absurd (false≢true e), λ same. absurd (unknown (inr (inr same))))
+    by (none unknown) = (λ e. absurd (false≢true e), λ same. absurd (unknown (inr (inr (inr (inr same))))))
 
 -- a test that says something, and its failing
 denied : {P : Type 0} (b : Bool) → (b ≡ true) ↔ P → (b ≡ false) ↔ ¬ P
@@ -115,6 +129,8 @@ load-small kind = by (carries kind)
     by : {l : Load} → KindCarries kind l → loadSize l ≤ longestPdu
     by (signal few) = omega arith
     by (transmitter same) = omega arith
+    by (ask same) = omega arith
+    by (answer same) = omega arith
     by (reply same) = omega arith
     by (none unknown) = omega arith
 
@@ -140,10 +156,16 @@ plain-length kind = by (carries kind)
     by : {l : Load} → KindCarries kind l → headSize + loadSize l ≡ plainLength kind
     by (signal few) = sym (matches-at (λ (n : ℕ). headSize + loadSize (Words n)) signalLengths refl kind _ (omega arith))
     by (transmitter same) = rw same
+    by (ask same) = rw same
+    by (answer same) = rw same
     by (reply same) = rw same
     by (none unknown) =
         sym (List·getD-eq-default signalLengths _ (over (λ few. unknown (inl few)))
-        ∙ ap otherLength (ne-eqb kind _ (λ same. unknown (inr (inl same)))))
+        ∙ rw (
+          ne-eqb kind 16 (λ same. unknown (inr (inl same))),
+          ne-eqb kind 17 (λ same. unknown (inr (inr (inl same)))),
+          ne-eqb kind 18 (λ same. unknown (inr (inr (inr (inl same))))),
+        ))
       where
         over : (kind ≤ 12 → ⊥) → length signalLengths ≤ kind
         over h = omega arith

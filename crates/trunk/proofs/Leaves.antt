@@ -14,6 +14,7 @@ use Rattle.wire.specs.Rules.{Met}
 use Rattle.pdu.specs.Reading.{reading}
 use Rattle.pdu.specs.Writing.{writtenForm, paddingZero}
 use Rattle.pdu.proofs.RoundTrip.{written-form-back}
+use Rattle.station.specs.declared.Settings.{Settings}
 use Rattle.trunk.specs.Kinds.{kindOf, noKind, longestRecord}
 use Rattle.trunk.specs.Head.{headSize}
 use Rattle.trunk.specs.Record.{headFor, replyOf}
@@ -37,8 +38,8 @@ use Rattle.trunk.proofs.CallLaws.{arrival-refused, arrival-delivered, a
 use Rattle.trunk.proofs.ExactlyWhen.{clash}
 
 -- what the makers give
-pub fresh : (level net : ℕ) → Fresh freshNear level net (madeFar level net)
-fresh level net = record { accepted = refl; acknowledged = refl; count = refl; station = refl; answer = refl }
+pub fresh : (settings : Settings) → Fresh freshNear settings (madeFar settings)
+fresh settings = record { accepted = refl; acknowledged = refl; count = refl; station = refl; answer = refl }
 
 -- ---- offering
 

@@ -4,7 +4,7 @@
 -- Assumes nothing.
 use Prim.Native.Nat.{ℕ, _+_, _%_, _≤_, _<_}
 use mathlib.Core.Path.{_≡_, refl, sym, ap, subst, _∙_}
-use mathlib.Core.Logic.{_↔_, _≢_, Iff·trans}
+use mathlib.Core.Logic.{_↔_, _≢_, inl, inr, Iff·trans}
 use mathlib.Core.Bool.{Bool, true, false, cond, not, _&&_, and-false}
 use mathlib.Core.List.{List, [], _++_}
 use lib.ListN.{length, take, length-append}
@@ -27,15 +27,15 @@ use Rattle.pdu.specs.declared.Reading.the-variants.{Refused, Transmitter as aTr
 use Rattle.wire.proofs.RuleLaws.{negated, both-then}
 use Rattle.pdu.proofs.Answers.{reads-as, refuses-as, refusal-read}
 use Rattle.pdu.proofs.RoundTrip.{written-form, written-form-exactly, written-form-holds}
-use Rattle.pdu.proofs.ReadLaws.{taken-words}
+use Rattle.pdu.proofs.ReadLaws.{taken-words, taken-timing}
 use Rattle.trunk.specs.Head.{headTable, headSize, headValues, headAt, headOf, headBytes}
 use Rattle.trunk.specs.Kinds.{load, loadSize, isUnknown, isNothing, recordSize, replyKind, noKind, kindFor, loadOf, loadOfSignal, kindOf}
 use Rattle.trunk.specs.Record.{headFor, recordOf, replyOf, kindIn, numberIn, carriedIn, lastNumber, unknownKind, wrongSize, isReply}
 use Rattle.trunk.specs.Record.{lastOfAll, wrongCarried}
-use Rattle.trunk.specs.Plain.{signal, transmitter, plainKind, recordWith, replyWith, recordFor, TypeRule, OfKind}
+use Rattle.trunk.specs.Plain.{signal, transmitter, ask, answer, plainKind, recordWith, replyWith, recordFor, TypeRule, OfKind}
 use Rattle.trunk.specs.declared.Head.{Head}
 use Rattle.trunk.specs.declared.Load.{Load}
-use Rattle.trunk.specs.declared.Load.the-variants.{Words, Transmitter, Unknown}
+use Rattle.trunk.specs.declared.Load.the-variants.{Words, Transmitter, Interrogation, TimingReply}
 use Rattle.trunk.proofs.KindLaws.{load-is}
 
 -- ---- what is carried
@@ -68,13 +68,46 @@ carries-words : (n size : ℕ) → n ≤ 12 → loadSize (Words n) ≡ size → 
 carries-words n size few e =
     record { byte = omega arith; back = ap load (zero-add n) ∙ load-is (signal few); known = refl; no-reply = refl; sized = e }
 
--- a Signal that is carried is of type 0
-pub carried-type : (type n : ℕ) → kindFor (loadOfSignal type n) ≢ noKind → type ≡ 0
-carried-type type n h = by (eqb type 0) refl
+carries-ask : (size : ℕ) → loadSize Interrogation ≡ size → Carries Interrogation size
+carries-ask size e =
+    record { byte = omega arith; back = load-is (ask refl); known = refl; no-reply = refl; sized = e }
+
+carries-answer : (size : ℕ) → loadSize TimingReply ≡ size → Carries TimingReply size
+carries-answer size e =
+    record { byte = omega arith; back = load-is (answer refl); known = refl; no-reply = refl; sized = e }
+
+-- a Signal that is carried is of type 0, 1 or 2
+pub data TypeCarried (type : ℕ) : Type 0 where
+  words-type : type ≡ 0 → TypeCarried type
+  ask-type : type ≡ 1 → TypeCarried type
+  answer-type : type ≡ 2 → TypeCarried type
+
+pub carried-type : (type n : ℕ) → kindFor (loadOfSignal type n) ≢ noKind → TypeCarried type
+carried-type type n h = by (eqb type 0) (eqb type 1) (eqb type 2) refl refl refl
   where
-    by : (b : Bool) → eqb type 0 ≡ b → type ≡ 0
-    by true e = eqb-true type 0 e
-    by false e = absurd (h (ap (λ (b : Bool). kindFor (cond b (Words (wordsIn n)) Unknown)) e))
+    by : (a b c : Bool) → eqb type 0 ≡ a → eqb type 1 ≡ b → eqb type 2 ≡ c → TypeCarried type
+    by true b c x y z = words-type (eqb-true type 0 x)
+    by false true c x y z = ask-type (eqb-true type 1 y)
+    by false false true x y z = answer-type (eqb-true type 2 z)
+    by false false false x y z = absurd (h (rw (x, y, z)))
+
+-- the type of such a Signal, as a number
+type-below : {type : ℕ} → TypeCarried type → type ≤ 2
+type-below (words-type e) = omega arith
+type-below (ask-type e) = omega arith
+type-below (answer-type e) = omega arith
+
+-- and the reverse
+below-type : (type : ℕ) → type ≤ 2 → TypeCarried type
+below-type type h = by (eqb type 0) (eqb type 1) refl refl
+  where
+    by : (a b : Bool) → eqb type 0 ≡ a → eqb type 1 ≡ b → TypeCarried type
+    by true b x y = words-type (eqb-true type 0 x)
+    by false true x y = ask-type (eqb-true type 1 y)
+    by false false x y =
+        let some : type ≢ 0 = eqb-false type 0 x in
+        let more : type ≢ 1 = eqb-false type 1 y in
+        answer-type (omega arith)
 
 pub carried-kind : (d : List ℕ) → kindOf (reading d) ≢ noKind → CarriedKind d
 carried-kind d h = by (reading d) refl h
@@ -94,13 +127,22 @@ carried-kind d h = by (reading d) refl h
     by : (r : Reading) → reading d ≡ r → kindOf r ≢ noKind → CarriedKind d
     by (Refused n) e c = absurd (c refl)
     by (aTransmitter t) e c = made (aTransmitter t) e (reads-as d (aTransmitter t) tt e .0) (carries-transmitter _ refl)
-    by (aSignal s n) e c =
-        let type = carried-type (s .network .«message_type») n c in
-        let words = taken-words d s n e type in
-        let this : loadOf (aSignal s n) ≡ Words (wordsIn n) = ap (λ (k : ℕ). loadOfSignal k n) type in
-        made (aSignal s n) e (reads-as d (aSignal s n) tt e .0)
-        (subst (λ (l : Load). Carries l (signalSize n)) (sym this)
-        (carries-words (wordsIn n) (signalSize n) (words .1) (ap signalSize (sym (words .0)))))
+    by (aSignal s n) e c = made (aSignal s n) e (reads-as d (aSignal s n) tt e .0) (typed (carried-type _ n c))
+      where
+        -- the load of a type, and that it is carried
+        held : {l : Load} (type : ℕ)
+            → s .network .«message_type» ≡ type
+            → loadOfSignal type n ≡ l
+            → Carries l (signalSize n)
+            → Carries (loadOf (aSignal s n)) (signalSize n)
+        held type same is c = subst (λ (l : Load). Carries l (signalSize n)) (sym (ap (λ (k : ℕ). loadOfSignal k n) same ∙ is)) c
+
+        typed : TypeCarried (s .network .«message_type») → Carries (loadOf (aSignal s n)) (signalSize n)
+        typed (words-type type) =
+            let words = taken-words d s n e type in
+            held 0 type refl (carries-words (wordsIn n) (signalSize n) (words .1) (ap signalSize (sym (words .0))))
+        typed (ask-type type) = held 1 type refl (carries-ask _ (ap signalSize (sym (taken-timing d s n e (inl type)))))
+        typed (answer-type type) = held 2 type refl (carries-answer _ (ap signalSize (sym (taken-timing d s n e (inr type)))))
 
 -- ---- 23, of a datagram that is taken
 
@@ -108,7 +150,7 @@ pub type-says : (d : List ℕ) → refusal d ≡ 0 → (eqb (kindOf (reading d))
 type-says d z = Iff·trans (eqb-false _ _, ne-eqb _ _) (typed, carried)
   where
     typed : kindOf (reading d) ≢ noKind → TypeRule d
-    typed h s n e = carried-type _ n (λ k. h (ap kindOf e ∙ k))
+    typed h s n e = type-below (carried-type _ n (λ k. h (ap kindOf e ∙ k)))
 
     carried : TypeRule d → kindOf (reading d) ≢ noKind
     carried t = by (reading d) refl
@@ -116,10 +158,14 @@ type-says d z = Iff·trans (eqb-false _ _, ne-eqb _ _) (typed, carried)
         by : (r : Reading) → reading d ≡ r → kindOf r ≢ noKind
         by (Refused n) e = λ k. let h = refuses-as d n .0 e in h .1 (sym (h .0) ∙ z)
         by (aTransmitter t) e = λ k. omega arith
-        by (aSignal s n) e =
-            let type = t s n e in
-            let few = taken-words d s n e type .1 in
-            rw (eq-eqb _ _ type) (λ k. omega arith)
+        by (aSignal s n) e = typed (below-type _ (t s n e))
+          where
+            typed : TypeCarried (s .network .«message_type») → kindOf (aSignal s n) ≢ noKind
+            typed (words-type type) =
+                let few = taken-words d s n e type .1 in
+                rw type (λ k. omega arith)
+            typed (ask-type type) = rw type (λ k. omega arith)
+            typed (answer-type type) = rw type (λ k. omega arith)
 
 -- ---- 22: a PDU of that kind
 
@@ -132,10 +178,17 @@ of-kind d kind z byte = Iff·trans (eqb-true _ _, eq-eqb _ _) (there, back)
         by : (r : Reading) → reading d ≡ r → kindOf r ≡ kind → OfKind kind r
         by (Refused n) e k = absurd (omega arith)
         by (aTransmitter t) e k = transmitter t (sym k)
-        by (aSignal s n) e k =
-            let type = carried-type (s .network .«message_type») n (λ (none : kindFor (loadOf (aSignal s n)) ≡ noKind). omega arith) in
-            let words : 0 + wordsIn n ≡ kind = sym (ap (λ (t : ℕ). kindFor (loadOfSignal t n)) type) ∙ k in
-            signal s n type (omega (arith, taken-words d s n e type .0))
+        by (aSignal s n) e k = typed (carried-type _ n (λ (none : kindFor (loadOf (aSignal s n)) ≡ noKind). omega arith))
+          where
+            of-type : (type : ℕ) → s .network .«message_type» ≡ type → kindFor (loadOfSignal type n) ≡ kind
+            of-type type same = sym (ap (λ (t : ℕ). kindFor (loadOfSignal t n)) same) ∙ k
+
+            typed : TypeCarried (s .network .«message_type») → OfKind kind (aSignal s n)
+            typed (words-type type) =
+                let words : 0 + wordsIn n ≡ kind = of-type 0 type in
+                signal s n type (omega (arith, taken-words d s n e type .0))
+            typed (ask-type type) = ask s n type (sym (of-type 1 type))
+            typed (answer-type type) = answer s n type (sym (of-type 2 type))
 
     back : OfKind kind (reading d) → kindOf (reading d) ≡ kind
     back o = by (reading d) refl o
@@ -143,6 +196,8 @@ of-kind d kind z byte = Iff·trans (eqb-true _ _, eq-eqb _ _) (there, back)
         by : (r : Reading) → reading d ≡ r → OfKind kind r → kindOf r ≡ kind
         by r e (transmitter t same) = sym same
         by r e (signal s n type long) = ap (λ (t : ℕ). kindFor (loadOfSignal t n)) type ∙ omega arith
+        by r e (ask s n type same) = ap (λ (t : ℕ). kindFor (loadOfSignal t n)) type ∙ sym same
+        by r e (answer s n type same) = ap (λ (t : ℕ). kindFor (loadOfSignal t n)) type ∙ sym same
 
 -- what is carried, as the writer gives it, of that kind
 pub carried-says :
@@ -207,7 +262,12 @@ plain-kind d h = by (reading d) h
     by : (r : Reading) → kindOf r ≢ noKind → kindOf r ≡ plainKind r
     by (Refused n) c = absurd (c refl)
     by (aTransmitter t) c = refl
-    by (aSignal s n) c = ap (λ (t : ℕ). kindFor (loadOfSignal t n)) (carried-type (s .network .«message_type») n c) ∙ zero-add (wordsIn n)
+    by (aSignal s n) c = typed (carried-type _ n c)
+      where
+        typed : TypeCarried (s .network .«message_type») → kindOf (aSignal s n) ≡ plainKind (aSignal s n)
+        typed (words-type type) = rw type (zero-add (wordsIn n))
+        typed (ask-type type) = rw type refl
+        typed (answer-type type) = rw type refl
 
 -- a record is its kind, its number in 4 bytes, and what it carries
 pub record-plain : (kind number : ℕ) (pdu : List ℕ) → kind < 256 → recordOf (headFor kind number) pdu ≡ recordWith kind number pdu

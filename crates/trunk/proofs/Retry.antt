@@ -12,6 +12,7 @@ use lib.Dec.{ltb}
 use native.Mathlib.Omega.{arith}
 use borrow.Author.Tests.{ltb-true, ltb-false}
 use Rattle.station.specs.declared.Station.{Station}
+use Rattle.station.specs.declared.Settings.{Settings}
 use Rattle.trunk.specs.Head.{headSize}
 use Rattle.trunk.specs.Kinds.{longestPdu}
 use Rattle.trunk.specs.Near.{rowSize, sent, sentOut, replied}
@@ -119,15 +120,15 @@ module _ (buffer reply out : List ℕ) (long : rowSize ≤ length buffer) (fits 
 
 -- From every line that a fair list reached, with lent buffers of any content that have room, eight rounds at most leave nothing unacknowledged.
 pub retries :
-    (level net : ℕ) (store : List ℕ) (calls : List Call)
-    → Fair (start level net store) calls
+    (settings : Settings) (store : List ℕ) (calls : List Call)
+    → Fair (start settings store) calls
     → (buffer reply out : List ℕ)
     → 192 ≤ length buffer
     → 5 ≤ length reply
     → 180 ≤ length out
-    → Through (run (start level net store) calls) (rounds 8 (run (start level net store) calls) buffer reply out)
-retries level net store calls fair buffer reply out long fits room =
-    let s = run-stands (start level net store) calls fair (start-stands level net store) in
+    → Through (run (start settings store) calls) (rounds 8 (run (start settings store) calls) buffer reply out)
+retries settings store calls fair buffer reply out long fits room =
+    let s = run-stands (start settings store) calls fair (start-stands settings store) in
     let c = s .holds .counts in
-    through buffer reply out long fits room _ (run (start level net store) calls) s
+    through buffer reply out long fits room _ (run (start settings store) calls) s
     (omega (arith, c .near-accepted, c .near-acknowledged, c .window))

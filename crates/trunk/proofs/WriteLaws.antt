@@ -2,7 +2,7 @@
 -- Assumes nothing.
 use Prim.Native.Nat.{ℕ, _≤_}
 use mathlib.Core.Path.{_≡_, refl, ap, _∙_}
-use mathlib.Core.Logic.{_≢_}
+use mathlib.Core.Logic.{_≢_, inl, inr}
 use mathlib.Core.List.{List}
 use lib.ListN.{length}
 use native.Mathlib.Omega.{arith}
@@ -13,12 +13,12 @@ use Rattle.pdu.specs.Reading.{reading}
 use Rattle.pdu.specs.Writing.{writtenForm}
 use Rattle.pdu.specs.declared.Signal.{Signal}
 use Rattle.pdu.specs.declared.Reading.{Reading}
-use Rattle.pdu.proofs.ReadLaws.{taken-words, written-size}
+use Rattle.pdu.proofs.ReadLaws.{taken-words, taken-timing, written-size}
 use Rattle.trunk.specs.Head.{headSize, headBytes}
 use Rattle.trunk.specs.Kinds.{kindOf, noKind, longestPdu, longestRecord}
 use Rattle.trunk.specs.Record.{recordOf}
 use Rattle.trunk.specs.declared.Head.{Head}
-use Rattle.trunk.proofs.RecordLaws.{carried-type, length-record}
+use Rattle.trunk.proofs.RecordLaws.{TypeCarried, words-type, ask-type, answer-type, carried-type, length-record}
 
 -- ---- how long it is
 
@@ -28,9 +28,12 @@ pub carried-size :
     → reading d ≡ Reading.Signal s n
     → kindOf (reading d) ≢ noKind
     → signalSize n ≤ longestPdu
-carried-size d s n e h =
-    let w = taken-words d s n e (carried-type (s .network .«message_type») n (λ z. h (ap kindOf e ∙ z))) in
-    omega (arith, w .0, w .1)
+carried-size d s n e h = typed (carried-type (s .network .«message_type») n (λ z. h (ap kindOf e ∙ z)))
+  where
+    typed : TypeCarried (s .network .«message_type») → signalSize n ≤ longestPdu
+    typed (words-type type) = let w = taken-words d s n e type in omega (arith, w .0, w .1)
+    typed (ask-type type) = omega (arith, taken-timing d s n e (inl type))
+    typed (answer-type type) = omega (arith, taken-timing d s n e (inr type))
 
 -- the written form of what the trunk carries is no longer than the longest PDU
 pub carried-short : (d : List ℕ) → kindOf (reading d) ≢ noKind → length (writtenForm d) ≤ longestPdu

@@ -9,6 +9,7 @@ use Rattle.wire.specs.First.{Refusal, _given-when_, first, told}
 use Rattle.station.specs.Units.{made}
 use Rattle.station.specs.Hearing.{heard}
 use Rattle.station.specs.Clock.{clocked}
+use Rattle.station.specs.declared.Settings.{Settings}
 use Rattle.station.specs.declared.Station.{Station}
 use Rattle.trunk.specs.Head.{headSize}
 use Rattle.trunk.specs.Kinds.{longestPdu}
@@ -25,8 +26,8 @@ abbrev pub freshFar : Station → Far
 freshFar s = record { count = 0; station = s }
 
 -- what the far end's maker answers: the fresh far end with the station that the station's maker gives, 37 passed on
-abbrev pub madeFar : ℕ → ℕ → MadeFar
-madeFar level net = record { far = freshFar (made level net .station); answer = made level net .answer }
+abbrev pub madeFar : Settings → MadeFar
+madeFar given = record { far = freshFar (made given .station); answer = made given .answer }
 
 -- "16 if the reply buffer is under 5 bytes or the output under 180"
 abbrev pub noRoom : ℕ → ℕ → Bool

@@ -4,7 +4,7 @@ use Prim.Native.Nat.{ℕ, _+_, _-_, _*_}
 use mathlib.Core.Bool.{Bool, true, false, cond, _&&_}
 use mathlib.Core.List.{List, [], _∷_}
 use lib.Dec.{eqb, leb}
-use Rattle.pdu.specs.Numbers.{transmitterSize, bodyHeader, wordBytes, mostWords}
+use Rattle.pdu.specs.Numbers.{transmitterSize, bodyHeader, wordBytes, mostWords, interrogation, timingReply, timingBytes}
 use Rattle.pdu.specs.Tables.{signalSize}
 use Rattle.pdu.specs.Words.{wordsIn}
 use Rattle.pdu.specs.declared.Reading.{Reading}
@@ -13,7 +13,7 @@ use Rattle.pdu.specs.declared.Carried.{Carried}
 use Rattle.pdu.specs.declared.Carried.the-variants.{Other, Pdu}
 use Rattle.trunk.specs.Head.{headSize}
 use Rattle.trunk.specs.declared.Load.{Load}
-use Rattle.trunk.specs.declared.Load.the-variants.{Words, Transmitter, Nothing, Unknown}
+use Rattle.trunk.specs.declared.Load.the-variants.{Words, Transmitter, Interrogation, TimingReply, Nothing, Unknown}
 
 -- ---- the table
 
@@ -31,12 +31,19 @@ signals = record { first = 0; last = mostWords; load = Words }
 abbrev pub transmitters : KindRow
 transmitters = record { first = 16; last = 16; load = λ n. Transmitter }
 
+-- 02, R-1: "The trunk carries them as kinds 17 and 18", types 1 and 2 of round-trip timing
+abbrev pub interrogations : KindRow
+interrogations = record { first = 17; last = 17; load = λ n. Interrogation }
+
+abbrev pub timingReplies : KindRow
+timingReplies = record { first = 18; last = 18; load = λ n. TimingReply }
+
 -- "Kind 32: a reply, the number alone"
 abbrev pub replies : KindRow
 replies = record { first = 32; last = 32; load = λ n. Nothing }
 
 abbrev pub kinds : List KindRow
-kinds = signals ∷ transmitters ∷ replies ∷ []
+kinds = signals ∷ transmitters ∷ interrogations ∷ timingReplies ∷ replies ∷ []
 
 -- ---- what a kind carries
 
@@ -56,6 +63,8 @@ load kind = loadIn kinds kind
 abbrev pub loadSize : Load → ℕ
 loadSize (Words n) = signalSize (bodyHeader + wordBytes * n)
 loadSize Transmitter = transmitterSize
+loadSize Interrogation = signalSize timingBytes
+loadSize TimingReply = signalSize timingBytes
 loadSize Nothing = 0
 loadSize Unknown = 0
 
@@ -74,12 +83,16 @@ longestRecord = headSize + longestPdu
 abbrev pub isUnknown : Load → Bool
 isUnknown (Words n) = false
 isUnknown Transmitter = false
+isUnknown Interrogation = false
+isUnknown TimingReply = false
 isUnknown Nothing = false
 isUnknown Unknown = true
 
 abbrev pub isNothing : Load → Bool
 isNothing (Words n) = false
 isNothing Transmitter = false
+isNothing Interrogation = false
+isNothing TimingReply = false
 isNothing Nothing = true
 isNothing Unknown = false
 
@@ -93,15 +106,21 @@ noKind = 256
 abbrev pub kindFor : Load → ℕ
 kindFor (Words n) = signals .first + n
 kindFor Transmitter = transmitters .first
+kindFor Interrogation = interrogations .first
+kindFor TimingReply = timingReplies .first
 kindFor Nothing = replies .first
 kindFor Unknown = noKind
 
 abbrev pub replyKind : ℕ
 replyKind = kindFor Nothing
 
--- what carries a Signal of this message type with a body of n bytes: types 1 to 7 are not carried
+-- what carries a message of this type that has no words: types 3 to 7 are not carried
+abbrev pub loadOfType : ℕ → Load
+loadOfType type = cond (eqb type interrogation) Interrogation (cond (eqb type timingReply) TimingReply Unknown)
+
+-- what carries a Signal of this message type with a body of n bytes
 abbrev pub loadOfSignal : ℕ → ℕ → Load
-loadOfSignal type n = cond (eqb type 0) (Words (wordsIn n)) Unknown
+loadOfSignal type n = cond (eqb type 0) (Words (wordsIn n)) (loadOfType type)
 
 -- what carries what reading answered, and its kind
 abbrev pub loadOf : Reading → Load

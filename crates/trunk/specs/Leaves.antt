@@ -11,6 +11,7 @@ use Rattle.pdu.specs.Writing.{paddingZero}
 use Rattle.station.specs.Units.{made}
 use Rattle.station.specs.Hearing.{heard}
 use Rattle.station.specs.Clock.{clocked}
+use Rattle.station.specs.declared.Settings.{Settings}
 use Rattle.trunk.specs.Plain.{plainKind, recordWith, replyWith, plainLength, plainRowKind, plainRow}
 use Rattle.trunk.specs.Line.{Entry, offer-made, send-made, reply-heard, record-heard, clock-set, Call, offer, send, to-near, to-far, tick}
 use Rattle.trunk.specs.Line.{Line, entry, step}
@@ -30,12 +31,12 @@ abbrev pub overwritten : ℕ → List ℕ → List ℕ → List ℕ
 overwritten at bytes old = take at old ++ bytes ++ drop (at + length bytes) old
 
 -- "the counts accepted .. and acknowledged, both first 0"; "a count k, first 0, and a station", which is the one that its maker gives
-pub record Fresh (near : Near) (level net : ℕ) (made-far : MadeFar) : Type 0 where
+pub record Fresh (near : Near) (settings : Settings) (made-far : MadeFar) : Type 0 where
   pub accepted : near .accepted ≡ 0
   pub acknowledged : near .acknowledged ≡ 0
   pub count : made-far .far .count ≡ 0
-  pub station : made-far .far .station ≡ made level net .station
-  pub answer : made-far .answer ≡ made level net .answer
+  pub station : made-far .far .station ≡ made settings .station
+  pub answer : made-far .answer ≡ made settings .answer
 
 -- "Offering writes the record from the first byte of row (number mod 8)": kind, number, and the datagram with padding zero; all other bytes of the
 -- store stay. "The PDU takes the accepted count as its number"

@@ -6,6 +6,7 @@ use lib.ListN.{length, take}
 use Rattle.wire.specs.Bytes.{num, Bytes}
 use Rattle.pdu.specs.Writing.{writtenForm}
 use Rattle.station.specs.Runs.{Call as StationCall, datagram, time}
+use Rattle.station.specs.declared.Settings.{Settings}
 use Rattle.trunk.specs.Plain.{plainRow}
 use Rattle.trunk.specs.Near.{freshNear, offered, storeAfter, sent, sentOut, replied}
 use Rattle.trunk.specs.Far.{madeFar, arrived, replyAfter, outputAfter, ticked}
@@ -49,8 +50,8 @@ pub record Line : Type 0 where
   pub log : List Entry
 
 -- "The list starts from a fresh near end, any store, and a fresh far end, its station of any settings": what the makers give
-abbrev pub start : ℕ → ℕ → List ℕ → Line
-start level net store = record { near = freshNear; store = store; far = madeFar level net .far; log = [] }
+abbrev pub start : Settings → List ℕ → Line
+start settings store = record { near = freshNear; store = store; far = madeFar settings .far; log = [] }
 
 -- the entry of a call
 abbrev pub entry : Line → Call → Entry

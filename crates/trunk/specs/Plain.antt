@@ -4,7 +4,7 @@
 use Prim.Native.Nat.{ℕ, _+_, _-_, _*_, _/_, _%_, _≤_, _<_}
 use mathlib.Core.Path.{_≡_}
 use mathlib.Core.Logic.{_⊎_, _≢_}
-use mathlib.Core.Bool.{Bool, cond}
+use mathlib.Core.Bool.{cond, _||_}
 use mathlib.Core.List.{List, [], _∷_, _++_}
 use lib.ListN.{length, getD, take, drop}
 use lib.Dec.{eqb}
@@ -17,45 +17,52 @@ use Rattle.pdu.specs.declared.Signal.{Signal as SignalFields}
 use Rattle.pdu.specs.declared.Reading.{Reading}
 use Rattle.pdu.specs.declared.Reading.the-variants.{Refused, Transmitter as aTransmitter, Signal as aSignal}
 use Rattle.trunk.specs.declared.Load.{Load}
-use Rattle.trunk.specs.declared.Load.the-variants.{Words, Transmitter, Nothing, Unknown}
+use Rattle.trunk.specs.declared.Load.the-variants.{Words, Transmitter, Interrogation, TimingReply, Nothing, Unknown}
 use Rattle.trunk.specs.declared.Near.{Near}
 
 -- ---- kinds
 
--- "Kind n from 0 to 12 ..; Kind 16 ..; Kind 32"
+-- "Kind n from 0 to 12 ..; Kind 16 ..; Kind 32"; 02, R-1: "kinds 17 and 18"
 abbrev pub KnownKind : ℕ → Type 0
-KnownKind kind = (kind ≤ 12) ⊎ ((kind ≡ 16) ⊎ (kind ≡ 32))
+KnownKind kind = (kind ≤ 12) ⊎ ((kind ≡ 16) ⊎ ((kind ≡ 17) ⊎ ((kind ≡ 18) ⊎ (kind ≡ 32))))
 
--- what a kind carries: "a type 0 Signal of n words", "a Transmitter", "a reply, the number alone"
+-- what a kind carries: "a type 0 Signal of n words", "a Transmitter", "a reply, the number alone"; round-trip timing of type 1 and of type 2
 pub data KindCarries (kind : ℕ) : Load → Type 0 where
   signal : kind ≤ 12 → KindCarries kind (Words kind)
   transmitter : kind ≡ 16 → KindCarries kind Transmitter
+  ask : kind ≡ 17 → KindCarries kind Interrogation
+  answer : kind ≡ 18 → KindCarries kind TimingReply
   reply : kind ≡ 32 → KindCarries kind Nothing
   none : ¬ KnownKind kind → KindCarries kind Unknown
 
--- the length of a record of a kind: "Records: 65, 73, 85, 185" for 0 to 12 words; "Transmitter 117; reply 5", and 5 where it is unknown
+-- the length of a record of a kind: "Records: 65, 73, 85, 185" for 0 to 12 words; "Transmitter 117; reply 5", and 5 where it is unknown; those of
+-- round-trip timing have a PDU of 60 bytes (52 and 6, filled)
 abbrev pub signalLengths : List ℕ
 signalLengths = 65 ∷ 73 ∷ 85 ∷ 93 ∷ 105 ∷ 113 ∷ 125 ∷ 133 ∷ 145 ∷ 153 ∷ 165 ∷ 173 ∷ 185 ∷ []
 
-abbrev pub otherLength : Bool → ℕ
-otherLength isTransmitter = cond isTransmitter 117 5
+abbrev pub otherLength : ℕ → ℕ
+otherLength kind = cond (eqb kind 16) 117 (cond (eqb kind 17 || eqb kind 18) 65 5)
 
 abbrev pub plainLength : ℕ → ℕ
-plainLength kind = getD signalLengths kind (otherLength (eqb kind 16))
+plainLength kind = getD signalLengths kind (otherLength kind)
 
--- "a PDU of that kind": n words behind 6 header bytes, 10 bytes each, for kind n; a Transmitter for kind 16
+-- "a PDU of that kind": n words behind 6 header bytes, 10 bytes each, for kind n; a Transmitter for kind 16; type 1 for 17 and type 2 for 18
 pub data OfKind (kind : ℕ) : Reading → Type 0 where
   signal : (s : SignalFields) (n : ℕ) → s .network .«message_type» ≡ 0 → n ≡ 6 + 10 * kind → OfKind kind (aSignal s n)
   transmitter : (t : TransmitterFields) → kind ≡ 16 → OfKind kind (aTransmitter t)
+  ask : (s : SignalFields) (n : ℕ) → s .network .«message_type» ≡ 1 → kind ≡ 17 → OfKind kind (aSignal s n)
+  answer : (s : SignalFields) (n : ℕ) → s .network .«message_type» ≡ 2 → kind ≡ 18 → OfKind kind (aSignal s n)
 
 -- ---- records
 
--- the kind under which a PDU is offered, by what was read: 16 for a Transmitter, n for a Signal of n words behind 6 header bytes, 10 bytes each
--- (a refusal is not offered; 0 fills its place)
+-- the kind under which a PDU is offered, by what was read: 16 for a Transmitter, 17 and 18 for types 1 and 2, n for a Signal of n words behind 6
+-- header bytes, 10 bytes each (a refusal is not offered; 0 fills its place)
 abbrev pub plainKind : Reading → ℕ
 plainKind (Refused n) = 0
 plainKind (aTransmitter t) = 16
-plainKind (aSignal s n) = (n - 6) / 10
+plainKind (aSignal s n) =
+    let type = s .network .«message_type» in
+    cond (eqb type 1) 17 (cond (eqb type 2) 18 ((n - 6) / 10))
 
 -- "A record is one byte of kind, then .. a 4-byte number, then the PDU"
 abbrev pub recordWith : ℕ → ℕ → List ℕ → List ℕ
@@ -116,9 +123,9 @@ CarriedRule r =
     × (writtenForm (drop 5 r) ≡ drop 5 r)
     × OfKind (num 1 0 r) (reading (drop 5 r))
 
--- 23: "types 1 to 7 are not carried"
+-- 23: "types 1 to 7 are not carried", by 02, R-1 "only for types 3 to 7"
 abbrev pub TypeRule : List ℕ → Type 0
-TypeRule d = (s : SignalFields) (n : ℕ) → reading d ≡ aSignal s n → s .network .«message_type» ≡ 0
+TypeRule d = (s : SignalFields) (n : ℕ) → reading d ≡ aSignal s n → s .network .«message_type» ≤ 2
 
 -- ---- the calls
 

@@ -3,6 +3,7 @@ ghost use mathlib.Core.Path.{_≡_};
 ghost use Prim.Native.Nat.{_≤_, _<_};
 ghost use lib.ListN.{length};
 ghost use Rattle.wire.specs.Bytes.{splice};
+ghost use Rattle.station.specs.Units.{settingsOf};
 ghost use Rattle.trunk.specs.Head.{headSize};
 ghost use Rattle.trunk.specs.Record.{lastNumber, replyOf};
 ghost use Rattle.trunk.specs.Far.{madeFar, isNext, countAfter, delivered, ArrivalGives, ticked};
@@ -16,11 +17,11 @@ use crate::kinds;
 use crate::records;
 use station::Station;
 
-// A far end before its first call, with a station of this level and net; 37 where the level is above 4 or the net above 127.
-pub fn new(level: u8, net: u8) -> MadeFar
-    ensures { λ r. ⌜ r ≡ madeFar level net ⌝ }
+// A far end before its first call, with a station of this level and net and this number of exchanges; 37 where the station's maker gives it.
+pub fn new(level: u8, net: u8, exchanges: u8) -> MadeFar
+    ensures { λ r. ⌜ r ≡ madeFar (settingsOf level net exchanges) ⌝ }
 {
-    let made = station::new(level, net);
+    let made = station::new(level, net, exchanges);
     let station = made.station;
     MadeFar {
         far: Far { count: 0, station },

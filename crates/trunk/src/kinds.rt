@@ -1,8 +1,8 @@
 // The kinds of record: one table of what each carries, and what follows from it.
 ghost use mathlib.Core.Path.{_≡_};
 ghost use Prim.Native.Nat.{_≤_};
-ghost use Rattle.trunk.specs.Kinds.{load, loadSize, recordSize, longestRecord, isUnknown, isNothing, kindFor, loadOfSignal};
-ghost use Rattle.trunk.specs.Kinds.{kindOf, kindCarried};
+ghost use Rattle.trunk.specs.Kinds.{load, loadSize, recordSize, longestRecord, isUnknown, isNothing, kindFor, loadOfType};
+ghost use Rattle.trunk.specs.Kinds.{loadOfSignal, kindOf, kindCarried};
 use crate::Load;
 use crate::records;
 use pdu::Carried;
@@ -13,6 +13,10 @@ const FIRST_WORDS: u8 = 0;
 const LAST_WORDS: u8 = FIRST_WORDS + pdu::MOST_WORDS as u8;
 
 const TRANSMITTER_KIND: u8 = 16;
+
+const INTERROGATION_KIND: u8 = 17;
+
+const TIMING_REPLY_KIND: u8 = 18;
 
 pub(crate) const REPLY_KIND: u8 = 32;
 
@@ -31,6 +35,8 @@ pub fn load(kind: u8) -> Load
     match kind {
         FIRST_WORDS..=LAST_WORDS => Load::Words((kind - FIRST_WORDS) as u16),
         TRANSMITTER_KIND => Load::Transmitter,
+        INTERROGATION_KIND => Load::Interrogation,
+        TIMING_REPLY_KIND => Load::TimingReply,
         REPLY_KIND => Load::Nothing,
         _ => Load::Unknown,
     }
@@ -46,6 +52,8 @@ fn load_size(load: Load) -> usize
             (bytes + pdu::FILL - 1) / pdu::FILL * pdu::FILL
         }
         Load::Transmitter => pdu::TRANSMITTER_SIZE,
+        Load::Interrogation => pdu::rules::signal_size(pdu::TIMING_BYTES as u16),
+        Load::TimingReply => pdu::rules::signal_size(pdu::TIMING_BYTES as u16),
         Load::Nothing => 0,
         Load::Unknown => 0,
     }
@@ -65,6 +73,8 @@ pub(crate) fn is_unknown(load: Load) -> bool
     match load {
         Load::Words(_) => false,
         Load::Transmitter => false,
+        Load::Interrogation => false,
+        Load::TimingReply => false,
         Load::Nothing => false,
         Load::Unknown => true,
     }
@@ -77,6 +87,8 @@ pub(crate) fn is_nothing(load: Load) -> bool
     match load {
         Load::Words(_) => false,
         Load::Transmitter => false,
+        Load::Interrogation => false,
+        Load::TimingReply => false,
         Load::Nothing => true,
         Load::Unknown => false,
     }
@@ -89,9 +101,24 @@ fn kind_for(load: Load) -> u16
     match load {
         Load::Words(n) => FIRST_WORDS as u16 + n,
         Load::Transmitter => TRANSMITTER_KIND as u16,
+        Load::Interrogation => INTERROGATION_KIND as u16,
+        Load::TimingReply => TIMING_REPLY_KIND as u16,
         Load::Nothing => REPLY_KIND as u16,
         Load::Unknown => NO_KIND,
     }
+}
+
+// What carries a message of this type that has no words.
+fn load_of_type(message_type: u8) -> Load
+    ensures { λ r. ⌜ r ≡ loadOfType «message_type» ⌝ }
+{
+    if message_type == pdu::INTERROGATION {
+        return Load::Interrogation;
+    }
+    if message_type == pdu::TIMING_REPLY {
+        return Load::TimingReply;
+    }
+    Load::Unknown
 }
 
 // What carries a Signal of this message type with a body of n bytes.
@@ -99,7 +126,7 @@ fn load_of_signal(message_type: u8, n: u16) -> Load
     ensures { λ r. ⌜ r ≡ loadOfSignal «message_type» n ⌝ }
 {
     if message_type != 0 {
-        return Load::Unknown;
+        return load_of_type(message_type);
     }
     if n < pdu::BODY_HEADER as u16 {
         return Load::Words(0);

@@ -8,10 +8,13 @@ pub mod near_end;
 pub mod records;
 mod refusals;
 
-// What a record carries behind its head: a type 0 Signal of so many words, a Transmitter, or nothing; or its kind is unknown.
+// What a record carries behind its head: a type 0 Signal of so many words, a Transmitter, round-trip timing (request R-1), or nothing; or its kind
+// is unknown.
 pub enum Load {
     Words(u16),
     Transmitter,
+    Interrogation,
+    TimingReply,
     Nothing,
     Unknown,
 }
@@ -70,7 +73,7 @@ pub struct Far {
     station: Station,
 }
 
-// What the far end's maker answers: 0, or 37 with a station of level 0, net 0.
+// What the far end's maker answers: 0, or 37 with a station of level 0, net 0 and 1 exchange.
 pub struct MadeFar {
     pub far: Far,
     pub answer: u8,

@@ -5,11 +5,12 @@ ghost use lib.ListN.{length};
 ghost use Rattle.wire.specs.Bytes.{splice};
 ghost use Rattle.wire.specs.First.{first};
 ghost use Rattle.wire.specs.Table.{fill};
-ghost use Rattle.pdu.specs.Numbers.{bodyStart, lastSlot, mostBytes};
-ghost use Rattle.pdu.specs.Tables.{signalSize, encodingTable, networkTable};
+ghost use Rattle.pdu.specs.Numbers.{bodyStart, lastSlot};
+ghost use Rattle.pdu.specs.Tables.{encodingTable, networkTable};
 ghost use Rattle.pdu.specs.Records.{encodingValues, networkValues};
 ghost use Rattle.pdu.specs.Rules.{innerRules};
 ghost use Rattle.pdu.specs.Forms.{bodyBytes, bytesOf};
+ghost use Rattle.pdu.specs.Bodies.{bodyWritten, BodyFits};
 ghost use Rattle.pdu.specs.Writing.{recordRules, writingRefusal};
 ghost use Rattle.pdu.specs.declared.Reading.the-variants.{Signal as aSignal};
 use crate::header;
@@ -81,14 +82,32 @@ fn put_network(out: &mut [u8], n: Network)
     wire::put_u64(out, 44, n.time);
 }
 
+// Writes the body of a message of this type: that of round-trip timing with the padding in its first two bytes zero.
+fn put_message(out: &mut [u8], message_type: u8, body: &[u8])
+    requires { ⌜ BodyFits «message_type» (now body) (now out) ⌝ }
+    ensures { λ _. ⌜ now (out .exit) ≡ splice bodyStart (bodyWritten «message_type» (now (body .entry))) (now (out .entry)) ⌝ }
+{
+    if pdu::rules::is_timing(message_type) {
+        let high = wire::u16_at(body, 0) % pdu::TIMING_HIGHS;
+        wire::put_u16(out, pdu::BODY_START, high);
+        wire::copy(
+            out,
+            pdu::BODY_START + pdu::TIMING_LOW,
+            &body[pdu::TIMING_LOW..],
+        );
+    } else {
+        wire::copy(out, pdu::BODY_START, body);
+    }
+}
+
 // Writes the body of a message of this type, and the fill.
 fn put_body(out: &mut [u8], message_type: u8, body: &[u8])
-    requires { ⌜ (length (now body) ≤ mostBytes) × (signalSize (length (now body)) ≤ length (now out)) ⌝ }
+    requires { ⌜ BodyFits «message_type» (now body) (now out) ⌝ }
     ensures { λ _. ⌜ now (out .exit) ≡ splice bodyStart (bodyBytes «message_type» (now (body .entry))) (now (out .entry)) ⌝ }
 {
     let end = pdu::BODY_START + body.len();
     let size = pdu::rules::signal_size(body.len() as u16);
-    wire::copy(out, pdu::BODY_START, body);
+    put_message(out, message_type, body);
     wire::zero(out, end, size - end);
 }
 

@@ -47,13 +47,26 @@ returns-3 c =
     let counted = c .before .before in
     rw (zero-type counted, agrees _ _ (c .before .if2 .left ∙ whole counted), ← counted .words-in .ensures, le-ltb _ _ (c .if3 .left))
 
+wrong-timing-requires : tie.Need-wrong-timing-requires
+wrong-timing-requires c κs = search needs
+
 returns-4 : tie.Need-returns-4
 unfolding bodyRules
-returns-4 c = rw (ne-eqb _ _ (c .before .if1 .left), lt-ltb _ _ (c .if4 .taken))
+returns-4 c =
+    let tested = c .before in
+    rw (ne-eqb _ _ (tested .before .if1 .left), sym (tested .wrong-timing .ensures) ∙ c .if4 .taken)
 
 returns-5 : tie.Need-returns-5
 unfolding bodyRules
-returns-5 c = rw (ne-eqb _ _ (c .before .if1 .left), le-ltb _ _ (c .if4 .left))
+returns-5 c =
+    let tested = c .before .before in
+    rw (ne-eqb _ _ (tested .before .if1 .left), sym (tested .wrong-timing .ensures) ∙ c .before .if4 .left, lt-ltb _ _ (c .if5 .taken))
+
+returns-6 : tie.Need-returns-6
+unfolding bodyRules
+returns-6 c =
+    let tested = c .before .before in
+    rw (ne-eqb _ _ (tested .before .if1 .left), sym (tested .wrong-timing .ensures) ∙ c .before .if4 .left, le-ltb _ _ (c .if5 .left))
 
 pub body-refusal-spec : {M : Type 1} → statement M
 body-refusal-spec =
@@ -65,5 +78,7 @@ body-refusal-spec =
     returns
     returns-2
     returns-3
+    wrong-timing-requires
     returns-4
-    returns-5)
+    returns-5
+    returns-6)

@@ -13,6 +13,7 @@ use Rattle.wire.proofs.PartLaws.{zero-end, part-rest}
 use Rattle.pdu.specs.Numbers.{bodyStart}
 use Rattle.pdu.specs.Tables.{fillOf}
 use Rattle.pdu.specs.Reading.{signalOf, bodySize}
+use Rattle.pdu.specs.Writing.{bodyBlank}
 use Rattle.pdu.proofs.BodyLaws.{body-blank}
 use Rattle.pdu.proofs.ReadLaws.{signal-laid}
 use borrow.Author.Needs.{needs}
@@ -20,17 +21,24 @@ use Rattle.reader.proofs.signal.is_blank.Statement.{statement}
 use Rattle.reader.proofs.signal.is_blank.Tie as tie
 
 -- the table's padding before the body, and the fill, as the table joins them
-regroup : (a b z : Bool) → ((a && (b && true)) && z) ≡ (a && (b && (z && true)))
-regroup true true true = refl
-regroup true true false = refl
-regroup true false z = refl
-regroup false b z = refl
+regroup : (a b body z : Bool) → (((a && (b && true)) && body) && z) ≡ (a && (b && (body && (z && true))))
+regroup true true true true = refl
+regroup true true true false = refl
+regroup true true false z = refl
+regroup true false body z = refl
+regroup false b body z = refl
 
 body-end-requires : tie.Need-body-end-requires
 body-end-requires c κs = search needs
 
 is-slot-blank-requires : tie.Need-is-slot-blank-requires
 is-slot-blank-requires c κs = search needs
+
+is-body-blank-requires : tie.Need-is-body-blank-requires
+is-body-blank-requires c κs = search needs
+
+both-requires : tie.Need-both-requires
+both-requires c κs = search needs
 
 sub-is-zero : tie.Need-sub-is-zero
 sub-is-zero c = search needs
@@ -44,36 +52,40 @@ part-is-zero-end c = search needs
 is-zero-requires : tie.Need-is-zero-requires
 is-zero-requires c κs = search needs
 
-both-requires : tie.Need-both-requires
-both-requires c κs = search needs
+both-requires-2 : tie.Need-both-requires-2
+both-requires-2 c κs = search needs
 
 u16-at-requires : tie.Need-u16-at-requires
 u16-at-requires c κs = search needs
 
-both-requires-2 : tie.Need-both-requires-2
-both-requires-2 c κs = search needs
+both-requires-3 : tie.Need-both-requires-3
+both-requires-3 c κs = search needs
 
 returns : tie.Need-returns
 returns c =
     let zeros = c .before .before .before in
-    let ends = zeros .before .before .before in
+    let inside = zeros .before .before in
+    let ends = inside .before .before .before in
     let d : List ℕ = now (ends .before .before .args .d) in
-    let laid = signal-laid d (ends .before .before .pre) in
+    let laid = signal-laid d (ends .before .before .pre .0) in
     let n = bodySize d in
+    let own = bodyBlank d in
     let fill-zero : zeros .is-zero .result ≡ eqb (num (fillOf n) (bodyStart + n) d) 0 =
     zeros .is-zero .ensures
     ∙ ap allZero (part-rest (ends .body-end .result) d)
     ∙ ap (λ (o : ℕ). allZero (drop o d)) (ends .body-end .ensures .0)
     ∙ zero-end (fillOf n) (bodyStart + n) d (omega (arith, laid .size)) in
     rw (
-      c .both2 .ensures,
+      c .both3 .ensures,
       c .before .u16-at .ensures,
-      c .before .before .both .ensures,
-      zeros .before .before .is-slot-blank .ensures,
+      c .before .before .both2 .ensures,
+      inside .both .ensures,
+      inside .before .is-body-blank .ensures,
+      inside .before .before .is-slot-blank .ensures,
       fill-zero,
     )
     (ap (λ (t : Bool). eqb (num 2 10 d) 0 && t)
-    (regroup (eqb (num 2 38 d) 0) (eqb (num 4 40 d / 131072 % 128) 0 && true) (eqb (num (fillOf n) (bodyStart + n) d) 0))
+    (regroup (eqb (num 2 38 d) 0) (eqb (num 4 40 d / 131072 % 128) 0 && true) own (eqb (num (fillOf n) (bodyStart + n) d) 0))
     ∙ ap (λ (t : Bool). eqb (num 2 10 d) 0 && (eqb (num 2 38 d) 0 && (eqb (num 4 40 d / 131072 % 128) 0 && true && t)))
     (sym (body-blank (signalOf d .network .«message_type») n bodyStart d)))
 
@@ -83,11 +95,13 @@ is-blank-spec =
     (tie.spec
     body-end-requires
     is-slot-blank-requires
+    is-body-blank-requires
+    both-requires
     sub-is-zero
     part-is-zero-start
     part-is-zero-end
     is-zero-requires
-    both-requires
-    u16-at-requires
     both-requires-2
+    u16-at-requires
+    both-requires-3
     returns)

@@ -49,7 +49,7 @@ returns-2 c =
     sym (not-written (form (d₁ past)) (d₁ past) (λ e. c .if2 .taken (answer ∙ sym (next past) ∙ e)))
 
 is-blank-requires : tie.Need-is-blank-requires
-is-blank-requires c κs = laid (c .before .before)
+is-blank-requires c κs = (laid (c .before .before), sym (c .before .inner-refusal .ensures) ∙ c .if2 .left)
 
 returns-3 : tie.Need-returns-3
 returns-3 c =

@@ -1,55 +1,25 @@
--- What a Signal says is the definition's. An absent word, and a word that is not initial or not of type 0, say nothing; any other word says what
--- its label says.
+-- What a Signal says is the definition's: round-trip timing by its type, and all else by the first word.
 -- Assumes nothing.
+use borrow.Author.Tests.{eq-eqb, ne-eqb}
 use Rattle.station.specs.Hearing.{messageOf}
-use mathlib.Core.Path.{sym, ap, _∙_}
-use Prim.Native.Nat.{ℕ}
 use borrow.Author.Needs.{needs}
 use Rattle.station.proofs.hear_signal.message.Statement.{statement}
 use Rattle.station.proofs.hear_signal.message.Tie as tie
 
--- the message type that the call was given
-abbrev kind : tie.After-word → ℕ
-kind c = c .before .before .args .kind
-
-enum-told : tie.Need-enum-told
-enum-told c = search needs
-
-enum-known-word : tie.Need-enum-known-word
-enum-known-word c = search needs
-
-both-requires : tie.Need-both-requires
-both-requires c κs = search needs
-
-labelled-message-requires : tie.Need-labelled-message-requires
-labelled-message-requires c κs = search needs
-
 returns : tie.Need-returns
 unfolding messageOf
-returns c = sym (ap (messageOf (c .before .before .args .kind)) (c .enum-told .given .1))
+returns c = rw (eq-eqb _ _ (c .if1 .taken))
 
 returns-2 : tie.Need-returns-2
 unfolding messageOf
-returns-2 c =
-    let asked = c .before .before in
-    let word = asked .before .before in
-    c .labelled-message .ensures ∙ sym (ap (messageOf (kind word)) (word .word .given .1) ∙ rw (sym (asked .both .ensures) ∙ c .before .if1 .taken))
+returns-2 c = rw (ne-eqb _ _ (c .before .if1 .left), eq-eqb _ _ (c .if2 .taken))
+
+word-message-requires : tie.Need-word-message-requires
+word-message-requires c κs = search needs
 
 returns-3 : tie.Need-returns-3
 unfolding messageOf
-returns-3 c =
-    let asked = c .before in
-    let word = asked .before .before in
-    sym (ap (messageOf (kind word)) (word .word .given .1) ∙ rw (sym (asked .both .ensures) ∙ c .if1 .left))
+returns-3 c = rw (ne-eqb _ _ (c .before .before .if1 .left), ne-eqb _ _ (c .before .if2 .left)) (c .word-message .ensures)
 
 pub message-spec : {M : Type 1} → statement M
-message-spec =
-    tie.close
-    (tie.spec
-    enum-told
-    enum-known-word
-    both-requires
-    labelled-message-requires
-    returns
-    returns-2
-    returns-3)
+message-spec = tie.close (tie.spec returns returns-2 word-message-requires returns-3)

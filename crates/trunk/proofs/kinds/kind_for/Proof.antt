@@ -30,6 +30,18 @@ cast-result-3 c = search needs
 enum-told-3 : tie.Need-enum-told-3
 enum-told-3 c = search needs
 
+cast-result-4 : tie.Need-cast-result-4
+cast-result-4 c = search needs
+
+enum-told-4 : tie.Need-enum-told-4
+enum-told-4 c = search needs
+
+cast-result-5 : tie.Need-cast-result-5
+cast-result-5 c = search needs
+
+enum-told-5 : tie.Need-enum-told-5
+enum-told-5 c = search needs
+
 returns : tie.Need-returns
 returns c = sym (ap kindFor (c .before .load .given .1))
 
@@ -41,6 +53,12 @@ returns-3 c = search needs
 
 returns-4 : tie.Need-returns-4
 returns-4 c = search needs
+
+returns-5 : tie.Need-returns-5
+returns-5 c = search needs
+
+returns-6 : tie.Need-returns-6
+returns-6 c = search needs
 
 pub kind-for-spec : {M : Type 1} → statement M
 kind-for-spec =
@@ -54,7 +72,13 @@ kind-for-spec =
     enum-told-2
     cast-result-3
     enum-told-3
+    cast-result-4
+    enum-told-4
+    cast-result-5
+    enum-told-5
     returns
     returns-2
     returns-3
-    returns-4)
+    returns-4
+    returns-5
+    returns-6)

@@ -1,4 +1,4 @@
--- `load_of_signal` meets its contract: types 1 to 7 are not carried, and a type 0 body's load is its number of words.
+-- `load_of_signal` meets its contract: another type goes by its own load, and a type 0 body's load is its number of words.
 -- Assumes nothing.
 use mathlib.Core.Path.{ap}
 use native.Mathlib.Omega.{arith}
@@ -8,8 +8,13 @@ use borrow.Author.Needs.{needs}
 use Rattle.trunk.proofs.kinds.load_of_signal.Statement.{statement}
 use Rattle.trunk.proofs.kinds.load_of_signal.Tie as tie
 
+load-of-type-requires : tie.Need-load-of-type-requires
+load-of-type-requires c κs = search needs
+
 returns : tie.Need-returns
-returns c = rw (ne-eqb (c .before .args .message-type) 0 (c .if1 .taken))
+returns c =
+    let given = c .before .before .args in
+    rw (ne-eqb (given .message-type) 0 (c .before .if1 .taken)) (c .load-of-type .ensures)
 
 cast-if2 : tie.Need-cast-if2
 cast-if2 c = search needs
@@ -34,4 +39,4 @@ returns-3 c = rw (eq-eqb (c .before .before .args .message-type) 0 (c .before .i
 
 pub load-of-signal-spec : {M : Type 1} → statement M
 load-of-signal-spec =
-    tie.close (tie.spec returns cast-if2 returns-2 cast-t4 sub-t5 cast-t6 div-t7 returns-3)
+    tie.close (tie.spec load-of-type-requires returns cast-if2 returns-2 cast-t4 sub-t5 cast-t6 div-t7 returns-3)

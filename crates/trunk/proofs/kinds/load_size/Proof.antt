@@ -37,8 +37,26 @@ enum-told c = search needs
 enum-told-2 : tie.Need-enum-told-2
 enum-told-2 c = search needs
 
+cast-signal-size : tie.Need-cast-signal-size
+cast-signal-size c = search needs
+
+signal-size-requires : tie.Need-signal-size-requires
+signal-size-requires c κs = search needs
+
 enum-told-3 : tie.Need-enum-told-3
 enum-told-3 c = search needs
+
+cast-signal-size-2 : tie.Need-cast-signal-size-2
+cast-signal-size-2 c = search needs
+
+signal-size-requires-2 : tie.Need-signal-size-requires-2
+signal-size-requires-2 c κs = search needs
+
+enum-told-4 : tie.Need-enum-told-4
+enum-told-4 c = search needs
+
+enum-told-5 : tie.Need-enum-told-5
+enum-told-5 c = search needs
 
 returns : tie.Need-returns
 returns c = omega (arith, ap loadSize (c .before .load .given .1))
@@ -51,6 +69,12 @@ returns-3 c = search needs
 
 returns-4 : tie.Need-returns-4
 returns-4 c = search needs
+
+returns-5 : tie.Need-returns-5
+returns-5 c = search needs
+
+returns-6 : tie.Need-returns-6
+returns-6 c = search needs
 
 pub load-size-spec : {M : Type 1} → statement M
 load-size-spec =
@@ -66,8 +90,16 @@ load-size-spec =
     mul-result
     enum-told
     enum-told-2
+    cast-signal-size
+    signal-size-requires
     enum-told-3
+    cast-signal-size-2
+    signal-size-requires-2
+    enum-told-4
+    enum-told-5
     returns
     returns-2
     returns-3
-    returns-4)
+    returns-4
+    returns-5
+    returns-6)

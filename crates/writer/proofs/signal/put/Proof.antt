@@ -80,7 +80,8 @@ put-network-requires c κs =
 put-body-requires : tie.Need-put-body-requires
 put-body-requires c κs =
     let put = c .before .before .before in
-    (bounds (start₃ put) .body, omega (arith, long₃ put, room (start₃ put)))
+    let given = bounds (start₃ put) in
+    (given .body, omega (arith, long₃ put, room (start₃ put)), given .timing)
 
 same-length : tie.Need-same-length
 same-length c = search needs

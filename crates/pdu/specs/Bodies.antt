@@ -1,0 +1,19 @@
+-- A body as it is written, and what the calls that write one may ask.
+use Prim.Native.Nat.{ℕ, _≤_}
+use mathlib.Core.List.{List}
+use lib.ListN.{length}
+use Rattle.wire.specs.Table.{clear}
+use Rattle.pdu.specs.Numbers
+use Rattle.pdu.specs.Tables.{signalSize, bodySlots}
+use Rattle.pdu.specs.Plain.{TimingRule}
+
+-- the body of a message of this type, with the padding inside it zero (02, R-1)
+abbrev pub bodyWritten : ℕ → List ℕ → List ℕ
+bodyWritten type body = clear 0 (bodySlots type (length body)) body
+
+-- a body that breaks no rule of sizes, and an output with room for the PDU
+abbrev pub BodyFits : ℕ → List ℕ → List ℕ → Type 0
+BodyFits type body out =
+    (length body ≤ Numbers.mostBytes)
+    × (signalSize (length body) ≤ length out)
+    × TimingRule type (length body)
