@@ -58,7 +58,7 @@ enum altuvrin_answer {
     /* The data length, in bits, is not a multiple of 8, or under 160. */
     ALTUVRIN_DATA_LENGTH = 12,
     /* NPG above 511, net above 127, TSEC or MSEC neither 0 to 127 nor 255, message type above 7,
-     * slot above 98,303, epoch above 112, or slot above 45,151 in epoch 112. */
+     * slot above 98,303, epoch above 112, or slot above 49,151 in epoch 112. */
     ALTUVRIN_NETWORK_HEADER = 13,
     /* The body of message type 0 is not 6 bytes and whole words of 10, or that of type 1 or 2
      * (round-trip timing) is not 6 bytes. */

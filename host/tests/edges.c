@@ -55,8 +55,8 @@ static void test_network_header(void)
     check_signal("epoch 111, slot 98,303", SLOT_ID, 0x6F017FFF, ALTUVRIN_TAKEN);
     check_signal("epoch 111, slot 98,304", SLOT_ID, 0x6F018000, ALTUVRIN_NETWORK_HEADER);
     check_signal("epoch 0, slot 98,304", SLOT_ID, 98304, ALTUVRIN_NETWORK_HEADER);
-    check_signal("epoch 112, slot 45,151", SLOT_ID, 0x7000B05F, ALTUVRIN_TAKEN);
-    check_signal("epoch 112, slot 45,152", SLOT_ID, 0x7000B060, ALTUVRIN_NETWORK_HEADER);
+    check_signal("epoch 112, slot 49,151", SLOT_ID, 0x7000BFFF, ALTUVRIN_TAKEN);
+    check_signal("epoch 112, slot 49,152", SLOT_ID, 0x7000C000, ALTUVRIN_NETWORK_HEADER);
     check_signal("TSEC 127", TSEC, 127, ALTUVRIN_TAKEN);
     check_signal("TSEC 255", TSEC, 255, ALTUVRIN_TAKEN);
     check_signal("TSEC 128", TSEC, 128, ALTUVRIN_NETWORK_HEADER);

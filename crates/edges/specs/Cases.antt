@@ -64,7 +64,7 @@ abbrev pub all-hold : List Case → Bool
 all-hold [] = true
 all-hold (c ∷ cs) = holds c && all-hold cs
 
--- the starred cases, in the order of 01
+-- the starred cases, in the order of 01; 02, R-2 replaces the one for slot 45,152
 abbrev pub starred-cases : List Case
 starred-cases =
     answers (zeros 11) 1 0  -- 11 bytes
@@ -77,7 +77,8 @@ starred-cases =
     ∷ answers (words 13 188) 15 0  -- 188 bytes, 13 words
     ∷ answers (signal 60 25 0 0) 14 0  -- type 0 with 25 data bytes
     ∷ slot-of (signal 60 26 0x6F017FFF 0) 111 98303  -- epoch 111, slot 98,303, taken
-    ∷ answers (signal 60 26 0x7000B060 0) 13 0
+    ∷ slot-of (signal 60 26 0x7000BFFF 0) 112 49151  -- 02, R-2: epoch 112, slot 49,151, taken
+    ∷ answers (signal 60 26 0x7000C000 0) 13 0
     ∷ answers (signal 60 26 0 128) 13 0  -- TSEC 128 and 254
     ∷ answers (signal 60 26 0 254) 13 0
     ∷ answers aTransmitter 0 112  -- the Transmitter of the next two rows is taken

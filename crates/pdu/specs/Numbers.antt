@@ -102,7 +102,7 @@ noSecurity = 255
 abbrev pub lastMessageType : ℕ
 lastMessageType = 7
 
--- "Slot ID": the last slot of an epoch, the last epoch, and the last slot in that
+-- "Slot ID": the last slot of an epoch, the last epoch, and the last slot in that (02, R-2: "49,151")
 abbrev pub lastSlot : ℕ
 lastSlot = 98303
 
@@ -110,7 +110,7 @@ abbrev pub lastEpoch : ℕ
 lastEpoch = 112
 
 abbrev pub lastSlotOfLastEpoch : ℕ
-lastSlotOfLastEpoch = 45151
+lastSlotOfLastEpoch = 49151
 
 -- "Type 0 body": its header bytes, a word's bytes, the most words; and the most bytes of types 1 to 7
 abbrev pub bodyHeader : ℕ

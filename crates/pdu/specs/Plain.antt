@@ -93,7 +93,7 @@ plainNetwork npg net tsec msec type slot epoch size =
     ∷ (13 unless (type ≤ 7))
     ∷ (13 unless (slot ≤ 98303))
     ∷ (13 unless (epoch ≤ 112))
-    ∷ (13 unless (epoch ≡ 112 → slot ≤ 45151))
+    ∷ (13 unless (epoch ≡ 112 → slot ≤ 49151))
     ∷ (14 unless (WordsRule type size × TimingRule type size))
     ∷ (15 unless SizeRule type size)
     ∷ []

@@ -43,7 +43,7 @@ accessRules n =
     ∷ (13 given-when wrongSecurity (n .msec))
     ∷ []
 
--- "In epoch 112 the last slot is 45,151"
+-- 02, R-2: "The last slot of epoch 112 is 49,151"
 abbrev pub isTooLate : Network → Bool
 isTooLate n = eqb (n .epoch) Numbers.lastEpoch && ltb Numbers.lastSlotOfLastEpoch (n .slot)
 

@@ -86,7 +86,7 @@ pub const LAST_SLOT: u32 = 98303;
 
 pub const LAST_EPOCH: u8 = 112;
 
-pub const LAST_SLOT_OF_LAST_EPOCH: u32 = 45151;
+pub const LAST_SLOT_OF_LAST_EPOCH: u32 = 49151;
 
 // A PDU's size is a multiple of this.
 pub const FILL: usize = 4;
