@@ -23,7 +23,7 @@ extern "C" {
 /*
  * The answer numbers of reading. The first that applies is given, in this order:
  *     Transmitter  1 2 3 4 5 6 7 8 9
- *     Signal       1 2 3 4 10 11 12 8 13 14 15
+ *     Signal       1 2 3 4 10 11 12 8 131 132 133 134 135 136 137 138 14 15
  *     record       20 21 25 22
  */
 enum altuvrin_answer {
@@ -57,9 +57,22 @@ enum altuvrin_answer {
     ALTUVRIN_TDL_TYPE = 11,
     /* The data length, in bits, is not a multiple of 8, or under 160. */
     ALTUVRIN_DATA_LENGTH = 12,
-    /* NPG above 511, net above 127, TSEC or MSEC neither 0 to 127 nor 255, message type above 7,
-     * slot above 98,303, epoch above 112, or slot above 49,151 in epoch 112. */
-    ALTUVRIN_NETWORK_HEADER = 13,
+    /* The NPG is above 511. */
+    ALTUVRIN_NPG = 131,
+    /* The net is above 127. */
+    ALTUVRIN_NET = 132,
+    /* The TSEC is neither 0 to 127 nor 255. */
+    ALTUVRIN_TSEC = 133,
+    /* The MSEC is neither 0 to 127 nor 255. */
+    ALTUVRIN_MSEC = 134,
+    /* The message type is above 7. */
+    ALTUVRIN_MESSAGE_TYPE = 135,
+    /* The slot is above 98,303. */
+    ALTUVRIN_SLOT = 136,
+    /* The epoch is above 112. */
+    ALTUVRIN_EPOCH = 137,
+    /* The slot is above 49,151 in epoch 112. */
+    ALTUVRIN_LATE_SLOT = 138,
     /* The body of message type 0 is not 6 bytes and whole words of 10, or that of type 1 or 2
      * (round-trip timing) is not 6 bytes. */
     ALTUVRIN_BODY_SIZE = 14,
@@ -128,7 +141,14 @@ static inline const char *altuvrin_reason(uint32_t number)
     case ALTUVRIN_ENCODING: return "encoding class";
     case ALTUVRIN_TDL_TYPE: return "TDL type";
     case ALTUVRIN_DATA_LENGTH: return "data length";
-    case ALTUVRIN_NETWORK_HEADER: return "network header";
+    case ALTUVRIN_NPG: return "NPG";
+    case ALTUVRIN_NET: return "net";
+    case ALTUVRIN_TSEC: return "TSEC";
+    case ALTUVRIN_MSEC: return "MSEC";
+    case ALTUVRIN_MESSAGE_TYPE: return "message type";
+    case ALTUVRIN_SLOT: return "slot above 98,303";
+    case ALTUVRIN_EPOCH: return "epoch above 112";
+    case ALTUVRIN_LATE_SLOT: return "slot too late in epoch 112";
     case ALTUVRIN_BODY_SIZE: return "size of the body";
     case ALTUVRIN_BODY_LIMIT: return "body too long";
     case ALTUVRIN_RECORD_KIND: return "kind of record";

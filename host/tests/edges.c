@@ -53,20 +53,20 @@ static void check_signal(const char *what, struct field field, uint32_t value, u
 static void test_network_header(void)
 {
     check_signal("epoch 111, slot 98,303", SLOT_ID, 0x6F017FFF, ALTUVRIN_TAKEN);
-    check_signal("epoch 111, slot 98,304", SLOT_ID, 0x6F018000, ALTUVRIN_NETWORK_HEADER);
-    check_signal("epoch 0, slot 98,304", SLOT_ID, 98304, ALTUVRIN_NETWORK_HEADER);
+    check_signal("epoch 111, slot 98,304", SLOT_ID, 0x6F018000, ALTUVRIN_SLOT);
+    check_signal("epoch 0, slot 98,304", SLOT_ID, 98304, ALTUVRIN_SLOT);
     check_signal("epoch 112, slot 49,151", SLOT_ID, 0x7000BFFF, ALTUVRIN_TAKEN);
-    check_signal("epoch 112, slot 49,152", SLOT_ID, 0x7000C000, ALTUVRIN_NETWORK_HEADER);
+    check_signal("epoch 112, slot 49,152", SLOT_ID, 0x7000C000, ALTUVRIN_LATE_SLOT);
     check_signal("TSEC 127", TSEC, 127, ALTUVRIN_TAKEN);
     check_signal("TSEC 255", TSEC, 255, ALTUVRIN_TAKEN);
-    check_signal("TSEC 128", TSEC, 128, ALTUVRIN_NETWORK_HEADER);
-    check_signal("TSEC 254", TSEC, 254, ALTUVRIN_NETWORK_HEADER);
+    check_signal("TSEC 128", TSEC, 128, ALTUVRIN_TSEC);
+    check_signal("TSEC 254", TSEC, 254, ALTUVRIN_TSEC);
     check_signal("MSEC 127", MSEC, 127, ALTUVRIN_TAKEN);
     check_signal("MSEC 255", MSEC, 255, ALTUVRIN_TAKEN);
-    check_signal("MSEC 128", MSEC, 128, ALTUVRIN_NETWORK_HEADER);
-    check_signal("MSEC 254", MSEC, 254, ALTUVRIN_NETWORK_HEADER);
+    check_signal("MSEC 128", MSEC, 128, ALTUVRIN_MSEC);
+    check_signal("MSEC 254", MSEC, 254, ALTUVRIN_MSEC);
     check_signal("NPG 511", NPG, 511, ALTUVRIN_TAKEN);
-    check_signal("NPG 512", NPG, 512, ALTUVRIN_NETWORK_HEADER);
+    check_signal("NPG 512", NPG, 512, ALTUVRIN_NPG);
 }
 
 static void check_id(const char *what, uint32_t level, uint32_t id, uint32_t number)

@@ -46,11 +46,11 @@ static void check_value(const char *what, struct field field, uint32_t value, ui
 }
 
 /* TSEC and MSEC. */
-static void check_security_setting(const char *what, struct field field)
+static void check_security_setting(const char *what, struct field field, uint32_t number)
 {
     const struct range set = {0, LAST_SECURITY_SETTING};
     const struct range none = {NO_SECURITY_SETTING, NO_SECURITY_SETTING};
-    check_ranges(what, field, set, none, ALTUVRIN_NETWORK_HEADER);
+    check_ranges(what, field, set, none, number);
 }
 
 /* Types 25 and 26 are left out: each makes the bytes a PDU of the other kind. */
@@ -98,11 +98,11 @@ static void test_signal_rules(void)
     check_value("Signal: length field", LENGTH, 60, ALTUVRIN_LENGTH);
     check_range("encoding", ENCODING, FIRST_ENCODING, LAST_ENCODING, ALTUVRIN_ENCODING);
     check_value("TDL type", TDL_TYPE, LINK_16_TDL_TYPE, ALTUVRIN_TDL_TYPE);
-    check_range("NPG", NPG, 0, LAST_NPG, ALTUVRIN_NETWORK_HEADER);
-    check_range("net", NET, 0, LAST_NET, ALTUVRIN_NETWORK_HEADER);
-    check_security_setting("TSEC", TSEC);
-    check_security_setting("MSEC", MSEC);
-    check_range("message type", MESSAGE_TYPE, 0, LAST_MESSAGE_TYPE, ALTUVRIN_NETWORK_HEADER);
+    check_range("NPG", NPG, 0, LAST_NPG, ALTUVRIN_NPG);
+    check_range("net", NET, 0, LAST_NET, ALTUVRIN_NET);
+    check_security_setting("TSEC", TSEC, ALTUVRIN_TSEC);
+    check_security_setting("MSEC", MSEC, ALTUVRIN_MSEC);
+    check_range("message type", MESSAGE_TYPE, 0, LAST_MESSAGE_TYPE, ALTUVRIN_MESSAGE_TYPE);
 }
 
 /* One check: each single bit of the synchronization ID, and none, at this level. */
@@ -129,28 +129,31 @@ static void test_ids(void)
         check_ids_at(what[level], level);
 }
 
-/* One check: of all slots that 17 bits can tell, the first so many are taken in this epoch. */
-static void check_slots(const char *what, uint32_t epoch, uint32_t taken)
+/* One check: of all slots that 17 bits can tell, the first so many are taken in this epoch, and
+ * those behind them that an epoch has are refused with this number. */
+static void check_slots(const char *what, uint32_t epoch, uint32_t taken, uint32_t number)
 {
     make_words(&datagram, 0);
     check_begin(what);
     for (uint32_t slot = 0; slot < 1u << 17; slot++) {
         put(&datagram, SLOT_ID, slot_id(epoch, slot));
-        sample(&datagram, slot < taken ? ALTUVRIN_TAKEN : ALTUVRIN_NETWORK_HEADER);
+        sample(&datagram, slot < taken        ? ALTUVRIN_TAKEN
+                          : slot <= LAST_SLOT ? number
+                                              : ALTUVRIN_SLOT);
     }
     check_end();
 }
 
 static void test_slots(void)
 {
-    check_slots("slots of epoch 0", 0, LAST_SLOT + 1);
-    check_slots("slots of epoch 111", LAST_EPOCH - 1, LAST_SLOT + 1);
-    check_slots("slots of epoch 112", LAST_EPOCH, LAST_SLOT_OF_LAST_EPOCH + 1);
-    check_slots("slots of epoch 113", LAST_EPOCH + 1, 0);
+    check_slots("slots of epoch 0", 0, LAST_SLOT + 1, ALTUVRIN_TAKEN);
+    check_slots("slots of epoch 111", LAST_EPOCH - 1, LAST_SLOT + 1, ALTUVRIN_TAKEN);
+    check_slots("slots of epoch 112", LAST_EPOCH, LAST_SLOT_OF_LAST_EPOCH + 1, ALTUVRIN_LATE_SLOT);
+    check_slots("slots of epoch 113", LAST_EPOCH + 1, 0, ALTUVRIN_EPOCH);
     check_begin("epochs");
     for (uint32_t epoch = 0; epoch < 256; epoch++) {
         put(&datagram, SLOT_ID, slot_id(epoch, 0));
-        sample(&datagram, epoch <= LAST_EPOCH ? ALTUVRIN_TAKEN : ALTUVRIN_NETWORK_HEADER);
+        sample(&datagram, epoch <= LAST_EPOCH ? ALTUVRIN_TAKEN : ALTUVRIN_EPOCH);
     }
     check_end();
 }
@@ -184,7 +187,7 @@ static void test_padding(void)
     put(&datagram, SLOT_ID, slot_id(LAST_EPOCH, LAST_SLOT_OF_LAST_EPOCH) | SLOT_ID_PADDING);
     check("padding of a slot ID taken", &datagram, ALTUVRIN_TAKEN);
     put(&datagram, SLOT_ID, slot_id(LAST_EPOCH, LAST_SLOT_OF_LAST_EPOCH + 1) | SLOT_ID_PADDING);
-    check("padding of a slot ID refused", &datagram, ALTUVRIN_NETWORK_HEADER);
+    check("padding of a slot ID refused", &datagram, ALTUVRIN_LATE_SLOT);
 }
 
 static void test_kept(void)

@@ -52,19 +52,21 @@ const SIGNAL_BREAKERS: [Breaker<Signal>; 24] = [
     (2, |d| d.record.header.version = VERSIONS[1] + 1),
     (10, |d| d.record.encoding = LAST_ENCODING + 1),
     (10, |d| d.record.encoding = u16::MAX),
-    (13, |d| d.record.network.npg = LAST_NPG + 1),
-    (13, |d| d.record.network.net = LAST_NET + 1),
-    (13, |d| d.record.network.tsec = LAST_SECURITY_SETTING + 1),
-    (13, |d| d.record.network.tsec = NO_SECURITY_SETTING - 1),
-    (13, |d| d.record.network.msec = LAST_SECURITY_SETTING + 1),
-    (13, |d| d.record.network.msec = NO_SECURITY_SETTING - 1),
-    (13, |d| {
+    (131, |d| d.record.network.npg = LAST_NPG + 1),
+    (132, |d| d.record.network.net = LAST_NET + 1),
+    (133, |d| d.record.network.tsec = LAST_SECURITY_SETTING + 1),
+    (133, |d| d.record.network.tsec = NO_SECURITY_SETTING - 1),
+    (134, |d| d.record.network.msec = LAST_SECURITY_SETTING + 1),
+    (134, |d| d.record.network.msec = NO_SECURITY_SETTING - 1),
+    (135, |d| {
         d.record.network.message_type = LAST_MESSAGE_TYPE + 1
     }),
-    (13, |d| set_slot(d, 0, LAST_SLOT + 1)),
-    (13, |d| set_slot(d, 0, 1 << SLOT_BITS)),
-    (13, |d| set_slot(d, LAST_EPOCH + 1, 0)),
-    (13, |d| set_slot(d, LAST_EPOCH, LAST_SLOT_OF_LAST_EPOCH + 1)),
+    (136, |d| set_slot(d, 0, LAST_SLOT + 1)),
+    (136, |d| set_slot(d, 0, 1 << SLOT_BITS)),
+    (137, |d| set_slot(d, LAST_EPOCH + 1, 0)),
+    (138, |d| {
+        set_slot(d, LAST_EPOCH, LAST_SLOT_OF_LAST_EPOCH + 1)
+    }),
     (14, |d| set_body(d, 0, WORDS_HEADER_SIZE - 1)),
     (14, |d| set_body(d, 0, WORDS_SIZE_MAX + WORD_SIZE + 1)),
     (14, |d| set_body(d, RTT, 0)),

@@ -90,6 +90,7 @@ impl CodecLines {
             ..drawn.network
         };
         self.damage(&mut record);
+        self.last_epoch(&mut record.network);
         let body = self.body(body);
         let pdu = Pdu::Signal(record, &body);
         let room = self.room(pdu.size().min(BYTES_MAX));
@@ -105,6 +106,15 @@ impl CodecLines {
             let field = self.random.below(count.0);
             let random = &mut self.random;
             record.visit(&mut Visit(&mut Damage { random, field }));
+        }
+    }
+
+    /// In one record of 16 the slot is at or beside the last one of the last epoch, which the other
+    /// changes seldom meet.
+    fn last_epoch(&mut self, network: &mut NetworkHeader) {
+        if self.random.one_in(16) {
+            network.epoch = LAST_EPOCH;
+            network.slot = LAST_SLOT_OF_LAST_EPOCH - 1 + self.random.below(3) as u32;
         }
     }
 

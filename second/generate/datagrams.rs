@@ -94,6 +94,11 @@ fn signal_fields() -> Vec<Ruled> {
         ruled(layout::MSEC, &security),
         ruled(layout::MESSAGE_TYPE, &[(0, pdu::LAST_MESSAGE_TYPE)]),
         ruled(layout::EPOCH, &[(0, pdu::LAST_EPOCH)]),
+        // The last slot of all by itself, so that damage often makes it one that is too late.
+        single(
+            layout::SLOT_ID,
+            pdu::slot_id(pdu::LAST_EPOCH, pdu::LAST_SLOT_OF_LAST_EPOCH),
+        ),
         ruled(
             layout::SLOT_ID,
             &[

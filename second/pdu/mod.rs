@@ -228,21 +228,22 @@ pub fn check_modulation(modulation: &Modulation) -> Result<(), Refusal> {
     require(holds, Refusal::Modulation)
 }
 
-/// Refusal 13: eight rules.
+/// Refusals 131 to 138, in place of 13 (document 02, R-3).
 #[inline(always)]
 pub fn check_network_header(network: &NetworkHeader) -> Result<(), Refusal> {
     let security = |setting| setting <= LAST_SECURITY_SETTING || setting == NO_SECURITY_SETTING;
-    let rules = [
-        network.npg <= LAST_NPG,
-        network.net <= LAST_NET,
-        security(network.tsec),
-        security(network.msec),
+    let is_late = network.epoch == LAST_EPOCH && network.slot > LAST_SLOT_OF_LAST_EPOCH;
+    require(network.npg <= LAST_NPG, Refusal::Npg)?;
+    require(network.net <= LAST_NET, Refusal::Net)?;
+    require(security(network.tsec), Refusal::Tsec)?;
+    require(security(network.msec), Refusal::Msec)?;
+    require(
         network.message_type <= LAST_MESSAGE_TYPE,
-        network.slot <= LAST_SLOT,
-        network.epoch <= LAST_EPOCH,
-        network.epoch != LAST_EPOCH || network.slot <= LAST_SLOT_OF_LAST_EPOCH,
-    ];
-    require(!rules.contains(&false), Refusal::NetworkHeader)
+        Refusal::MessageType,
+    )?;
+    require(network.slot <= LAST_SLOT, Refusal::Slot)?;
+    require(network.epoch <= LAST_EPOCH, Refusal::Epoch)?;
+    require(!is_late, Refusal::LateSlot)
 }
 
 /// Refusals 14 and 15.

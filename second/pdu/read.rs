@@ -175,7 +175,7 @@ fn read_modulation(bytes: &[u8]) -> Modulation {
     }
 }
 
-/// Refusals 4, 10, 11, 12, 8, 13, 14 and 15.
+/// Refusals 4, 10, 11, 12, 8, 131 to 138, 14 and 15.
 #[inline(always)]
 fn read_signal<'a>(start: &Start, datagram: &'a [u8]) -> Result<Pdu<'a>, Refusal> {
     let (fixed, rest) = fixed_part::<SIGNAL_FIXED_SIZE>(start.length, datagram)?;

@@ -16,7 +16,7 @@ pub fn write(pdu: &Pdu, output: &mut [u8]) -> Result<usize, Refusal> {
     Ok(size)
 }
 
-/// Refusals 2, then 9 for a Transmitter or 10, 13, 14 and 15 for a Signal.
+/// Refusals 2, then 9 for a Transmitter or 10, 131 to 138, 14 and 15 for a Signal.
 fn check_writable(pdu: &Pdu) -> Result<(), Refusal> {
     check_version(pdu.header().version)?;
     match pdu {

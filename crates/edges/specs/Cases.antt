@@ -64,7 +64,7 @@ abbrev pub all-hold : List Case → Bool
 all-hold [] = true
 all-hold (c ∷ cs) = holds c && all-hold cs
 
--- the starred cases, in the order of 01; 02, R-2 replaces the one for slot 45,152
+-- the starred cases, in the order of 01; 02, R-2 replaces the one for slot 45,152, and R-3 gives 138 and 133 for 13
 abbrev pub starred-cases : List Case
 starred-cases =
     answers (zeros 11) 1 0  -- 11 bytes
@@ -78,9 +78,9 @@ starred-cases =
     ∷ answers (signal 60 25 0 0) 14 0  -- type 0 with 25 data bytes
     ∷ slot-of (signal 60 26 0x6F017FFF 0) 111 98303  -- epoch 111, slot 98,303, taken
     ∷ slot-of (signal 60 26 0x7000BFFF 0) 112 49151  -- 02, R-2: epoch 112, slot 49,151, taken
-    ∷ answers (signal 60 26 0x7000C000 0) 13 0
-    ∷ answers (signal 60 26 0 128) 13 0  -- TSEC 128 and 254
-    ∷ answers (signal 60 26 0 254) 13 0
+    ∷ answers (signal 60 26 0x7000C000 0) 138 0
+    ∷ answers (signal 60 26 0 128) 133 0  -- TSEC 128 and 254
+    ∷ answers (signal 60 26 0 254) 133 0
     ∷ answers aTransmitter 0 112  -- the Transmitter of the next two rows is taken
     ∷ held-at 40 99 1  -- last heard at 40: in at 99
     ∷ held-at 40 100 0  -- removed at 100

@@ -8,8 +8,8 @@ use mathlib.Core.Bool.{Bool, true, false, not, _&&_, true≢false}
 use mathlib.Core.List.{List, [], _∷_, _++_}
 use lib.ListN.{length, take, drop, length-drop}
 use lib.Seq.{length-take-le}
-use lib.Dec.{leb}
-use borrow.Author.Tests.{eqb-true, eq-eqb, ne-eqb, not-true}
+use lib.Dec.{eqb, leb}
+use borrow.Author.Tests.{eqb-true, eqb-false, eq-eqb, ne-eqb, not-true}
 use native.Mathlib.Omega.{arith}
 use Rattle.wire.specs.Bytes.{num, splice}
 use Rattle.wire.proofs.ByteLaws.{splice-start}
@@ -25,14 +25,15 @@ use Rattle.pdu.specs.Forms.{tableOf, bytesOf, sizeOf, bodyIn}
 use Rattle.pdu.specs.Tables.{signalSize}
 use Rattle.pdu.specs.Reading.{bodySize, content, bodyOf, wrongLength, startRules, transmitterLayout, signalLayout, layoutRules}
 use Rattle.pdu.specs.Reading.{formRules, readingRules, refusal, reading}
-use Rattle.pdu.specs.Plain.{TimingRule}
-use Rattle.pdu.specs.Writing.{outputAfter, writtenForm, writtenAs, inWrittenForm}
+use Rattle.pdu.specs.Plain.{TimingRule, NoThirteen}
+use Rattle.pdu.specs.Writing.{recordRules, writingRules, writingRefusal, written, outputAfter, writtenForm, writtenAs, inWrittenForm}
 use Rattle.pdu.specs.declared.Signal.{Signal}
 use Rattle.pdu.specs.declared.Reading.{Reading}
 use Rattle.pdu.specs.declared.Reading.the-variants.{Refused, Transmitter as aTransmitter, Signal as aSignal}
+use Rattle.pdu.specs.declared.Written.the-variants.{Refused as NotWritten, Size}
 use Rattle.pdu.proofs.Agreement.{length-says, content-transmitter, content-signal, start-verdict, transmitter-layout, signal-layout}
 use Rattle.pdu.proofs.Agreement.{inner-record, signal-record}
-use Rattle.pdu.proofs.Answers.{Holds, reads-as, reading-taken, reading-refused}
+use Rattle.pdu.proofs.Answers.{Holds, reads-as, refuses-as, reading-taken, reading-refused}
 use Rattle.pdu.proofs.Taken.{Taken, taken, signal-bounds}
 use Rattle.pdu.proofs.RoundTrip.{length-form, written-form-back, written-back}
 
@@ -213,3 +214,45 @@ refusal-apart d k low high e = first-apart (startRules d ++ formRules (content d
     by-form (Refused n) = refl
     by-form (aTransmitter t) = refl
     by-form (aSignal s n) = refl
+
+-- ---- no 13
+
+-- whether no rule of a list has this number
+abbrev lacks : ℕ → List Refusal → Bool
+lacks k [] = true
+lacks k ((n given-when broken) ∷ rest) = not (eqb n k) && lacks k rest
+
+first-lacks : (k : ℕ) (rules : List Refusal) → lacks k rules ≡ true → k ≢ 0 → first rules ≢ k
+first-lacks k [] e some q = some (sym q)
+first-lacks k ((n given-when true) ∷ rest) e some q =
+    eqb-false n k (not-true _ (both-true (not (eqb n k)) (lacks k rest) e .0)) q
+first-lacks k ((n given-when false) ∷ rest) e some q = first-lacks k rest (both-true (not (eqb n k)) (lacks k rest) e .1) some q
+
+reading-lacks : (r : Reading) (d : List ℕ) → lacks 13 (startRules d ++ formRules r d) ≡ true
+unfolding startRules transmitterLayout signalLayout innerRules networkRules accessRules slotRules bodyRules
+reading-lacks (Refused n) d = refl
+reading-lacks (aTransmitter t) d = refl
+reading-lacks (aSignal s n) d = refl
+
+writing-lacks : (r : Reading) (room : ℕ) → lacks 13 (writingRules r room) ≡ true
+unfolding writingRules recordRules innerRules networkRules accessRules slotRules bodyRules
+writing-lacks (Refused n) room = refl
+writing-lacks (aTransmitter t) room = refl
+writing-lacks (aSignal s n) room = refl
+
+pub no-thirteen : NoThirteen
+unfolding refusal readingRules
+no-thirteen = record {
+  reading-gives = λ d n e q. first-lacks 13 (readingRules d) (reading-lacks (content d) d) (λ z. omega arith) (refuses-as d n .0 e .0 ∙ q);
+  writing-gives = λ r room n e q. by r room (eqb (writingRefusal r room) 0) refl (e ∙ ap NotWritten q);
+}
+  where
+    by : (r : Reading) (room : ℕ) (b : Bool) → eqb (writingRefusal r room) 0 ≡ b → written r room ≡ NotWritten 13 → ⊥
+    by r room true t e =
+        let other : Size (sizeOf r) ≡ NotWritten 13 = rw t at e in
+        let z : _≡_ {A = ℕ} 0 1 = cc in
+        omega arith
+    by r room false t e =
+        let same : NotWritten (writingRefusal r room) ≡ NotWritten 13 = rw t at e in
+        let number : writingRefusal r room ≡ 13 = cc in
+        first-lacks 13 (writingRules r room) (writing-lacks r room) (λ z. omega arith) number

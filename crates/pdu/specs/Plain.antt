@@ -67,7 +67,7 @@ plainTransmitter d =
 abbrev pub FilledTo : ℕ → ℕ → Type 0
 FilledTo n size = (n ≤ size) × (size < n + 4) × (size % 4 ≡ 0)
 
--- 13, TSEC and MSEC: "each 0 to 127 or 255"
+-- 133 and 134, TSEC and MSEC: "each 0 to 127 or 255"
 abbrev pub SecurityRule : ℕ → Type 0
 SecurityRule k = (k ≤ 127) ⊎ (k ≡ 255)
 
@@ -83,17 +83,17 @@ TimingRule type size = (type ≡ 1) ⊎ (type ≡ 2) → size ≡ 6
 abbrev pub SizeRule : ℕ → ℕ → Type 0
 SizeRule type size = (type ≡ 0 → size ≤ 126) × (type ≢ 0 → size ≤ 256)
 
--- 13, 14, 15, for NPG, net, TSEC, MSEC, message type, slot, epoch and the body's size (01: "32 NPG" to "Type 0 body")
+-- 131 to 138, 14, 15, for NPG, net, TSEC, MSEC, message type, slot, epoch and the body's size (01: "32 NPG" to "Type 0 body"; the numbers: 02, R-3)
 abbrev pub plainNetwork : ℕ → ℕ → ℕ → ℕ → ℕ → ℕ → ℕ → ℕ → List Rule
 plainNetwork npg net tsec msec type slot epoch size =
-    (13 unless (npg ≤ 511))
-    ∷ (13 unless (net ≤ 127))
-    ∷ (13 unless SecurityRule tsec)
-    ∷ (13 unless SecurityRule msec)
-    ∷ (13 unless (type ≤ 7))
-    ∷ (13 unless (slot ≤ 98303))
-    ∷ (13 unless (epoch ≤ 112))
-    ∷ (13 unless (epoch ≡ 112 → slot ≤ 49151))
+    (131 unless (npg ≤ 511))
+    ∷ (132 unless (net ≤ 127))
+    ∷ (133 unless SecurityRule tsec)
+    ∷ (134 unless SecurityRule msec)
+    ∷ (135 unless (type ≤ 7))
+    ∷ (136 unless (slot ≤ 98303))
+    ∷ (137 unless (epoch ≤ 112))
+    ∷ (138 unless (epoch ≡ 112 → slot ≤ 49151))
     ∷ (14 unless (WordsRule type size × TimingRule type size))
     ∷ (15 unless SizeRule type size)
     ∷ []
@@ -105,7 +105,7 @@ slotOf d = num 4 40 d % 2 ^ 17
 abbrev pub epochOf : List ℕ → ℕ
 epochOf d = num 4 40 d / 2 ^ 24 % 2 ^ 8
 
--- 13, 14, 15 of a datagram; the data length counts the network header's 20 bytes
+-- 131 to 138, 14, 15 of a datagram; the data length counts the network header's 20 bytes
 abbrev pub plainInner : List ℕ → List Rule
 plainInner d =
     plainNetwork (num 2 32 d) (num 1 34 d) (num 1 35 d) (num 1 36 d) (num 1 37 d) (slotOf d) (epochOf d) (num 2 28 d / 8 - 20)
@@ -120,7 +120,7 @@ plainSignalLayout d =
     ∷ (8 unless FilledTo (32 + num 2 28 d / 8) (length d))
     ∷ []
 
--- Signal: 1, 2, 3, 4, 10, 11, 12, 8, 13, 14, 15 (01: "Signal")
+-- Signal: 1, 2, 3, 4, 10, 11, 12, 8, 131 to 138, 14, 15 (01: "Signal"; 02, R-3)
 abbrev pub plainSignal : List ℕ → List Rule
 plainSignal d = plainStart (num 1 2 d ≡ 26) d ++ (plainSignalLayout d ++ plainInner d)
 
@@ -131,7 +131,7 @@ plainTransmitterRecord t =
     ∷ (9 unless SyncRule (t .sync .level) (t .sync .primary) (t .sync .secondary) (t .sync .state) (t .sync .id))
     ∷ []
 
--- the rules of a Signal to be written, with a body of n bytes: 2, 10, 13, 14, 15
+-- the rules of a Signal to be written, with a body of n bytes: 2, 10, 131 to 138, 14, 15
 abbrev pub plainSignalRecord : Signal → ℕ → List Rule
 plainSignalRecord s n =
     let k = s .network in
@@ -143,7 +143,7 @@ plainSignalRecord s n =
 abbrev pub plainTransmitterWriting : Transmitter → ℕ → List Rule
 plainTransmitterWriting t room = plainTransmitterRecord t ++ ((16 unless (112 ≤ room)) ∷ [])
 
--- 2, 10, 13, 14, 15, 16 for a Signal: the room is at least each filled size, of which there is one
+-- 2, 10, 131 to 138, 14, 15, 16 for a Signal: the room is at least each filled size, of which there is one
 abbrev pub plainSignalWriting : Signal → ℕ → ℕ → List Rule
 plainSignalWriting s n room =
     plainSignalRecord s n ++ ((16 unless ((size : ℕ) → FilledTo (52 + n) size → size ≤ room)) ∷ [])
@@ -162,3 +162,8 @@ pub record TakenExactly (d : List ℕ) : Type 0 where
 pub record WrittenExactly (r : Reading) (plain : List Rule) (room : ℕ) : Type 0 where
   pub written-size : (written r room ≡ Size (sizeOf r)) ↔ Met plain
   pub refused : (n : ℕ) → (written r room ≡ NotWritten n) ↔ FirstBroken n plain
+
+-- 02, R-3: each of the eight rules has a number of its own "in place of 13", which neither reading nor writing gives any more
+pub record NoThirteen : Type 0 where
+  pub reading-gives : (d : List ℕ) (n : ℕ) → reading d ≡ Refused n → n ≢ 13
+  pub writing-gives : (r : Reading) (room n : ℕ) → written r room ≡ NotWritten n → n ≢ 13

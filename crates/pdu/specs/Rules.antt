@@ -34,29 +34,29 @@ wrongSync s =
 abbrev pub wrongSecurity : ℕ → Bool
 wrongSecurity k = not (leb k Numbers.lastSecurity || eqb k Numbers.noSecurity)
 
--- 13: NPG, net, TSEC and MSEC
+-- 131 to 134 (02, R-3): NPG, net, TSEC and MSEC
 unfoldable pub accessRules : Network → List Refusal
 accessRules n =
-    (13 given-when ltb Numbers.lastNpg (n .npg))
-    ∷ (13 given-when ltb Numbers.lastNet (n .net))
-    ∷ (13 given-when wrongSecurity (n .tsec))
-    ∷ (13 given-when wrongSecurity (n .msec))
+    (131 given-when ltb Numbers.lastNpg (n .npg))
+    ∷ (132 given-when ltb Numbers.lastNet (n .net))
+    ∷ (133 given-when wrongSecurity (n .tsec))
+    ∷ (134 given-when wrongSecurity (n .msec))
     ∷ []
 
 -- 02, R-2: "The last slot of epoch 112 is 49,151"
 abbrev pub isTooLate : Network → Bool
 isTooLate n = eqb (n .epoch) Numbers.lastEpoch && ltb Numbers.lastSlotOfLastEpoch (n .slot)
 
--- 13: the message type and the slot ID
+-- 135 to 138 (02, R-3): the message type and the slot ID
 unfoldable pub slotRules : Network → List Refusal
 slotRules n =
-    (13 given-when ltb Numbers.lastMessageType (n .«message_type»))
-    ∷ (13 given-when ltb Numbers.lastSlot (n .slot))
-    ∷ (13 given-when ltb Numbers.lastEpoch (n .epoch))
-    ∷ (13 given-when isTooLate n)
+    (135 given-when ltb Numbers.lastMessageType (n .«message_type»))
+    ∷ (136 given-when ltb Numbers.lastSlot (n .slot))
+    ∷ (137 given-when ltb Numbers.lastEpoch (n .epoch))
+    ∷ (138 given-when isTooLate n)
     ∷ []
 
--- 13: the eight rules of the network header
+-- 131 to 138: the eight rules of the network header, each with its own number "in place of 13" (02, R-3)
 unfoldable pub networkRules : Network → List Refusal
 networkRules n = accessRules n ++ slotRules n
 
@@ -75,7 +75,7 @@ bodyRules type n =
     ∷ (15 given-when cond (eqb type 0) (ltb Numbers.mostWords (wordsIn n)) (ltb Numbers.mostBytes n))
     ∷ []
 
--- the rules that reading tries last and writing tries before 16: 9; or 13, 14, 15
+-- the rules that reading tries last and writing tries before 16: 9; or 131 to 138, 14, 15
 unfoldable pub innerRules : Reading → List Refusal
 innerRules (Refused n) = []
 innerRules (Transmitter t) = (9 given-when wrongSync (t .sync)) ∷ []

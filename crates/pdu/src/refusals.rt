@@ -31,8 +31,23 @@ pub const TDL_TYPE: u8 = 11;
 
 pub const DATA_LENGTH: u8 = 12;
 
-// A field of the network header, the slot ID included.
-pub const NETWORK_HEADER: u8 = 13;
+// The fields of the network header (request R-3).
+pub const NPG: u8 = 131;
+
+pub const NET: u8 = 132;
+
+pub const TSEC: u8 = 133;
+
+pub const MSEC: u8 = 134;
+
+pub const MESSAGE_TYPE: u8 = 135;
+
+// A slot that no epoch has, an epoch that no day has, and a slot that the last epoch does not have.
+pub const SLOT: u8 = 136;
+
+pub const EPOCH: u8 = 137;
+
+pub const LATE_SLOT: u8 = 138;
 
 // The body is not whole words, or has not the size of round-trip timing.
 pub const BODY_SIZE: u8 = 14;

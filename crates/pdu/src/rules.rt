@@ -53,16 +53,16 @@ fn access_refusal(n: Network) -> u8
     ensures { λ r. ⌜ r ≡ first (accessRules n) ⌝ }
 {
     if crate::LAST_NPG < n.npg {
-        return refusals::NETWORK_HEADER;
+        return refusals::NPG;
     }
     if crate::LAST_NET < n.net {
-        return refusals::NETWORK_HEADER;
+        return refusals::NET;
     }
     if wrong_security(n.tsec) {
-        return refusals::NETWORK_HEADER;
+        return refusals::TSEC;
     }
     if wrong_security(n.msec) {
-        return refusals::NETWORK_HEADER;
+        return refusals::MSEC;
     }
     0
 }
@@ -82,16 +82,16 @@ fn slot_refusal(n: Network) -> u8
     ensures { λ r. ⌜ r ≡ first (slotRules n) ⌝ }
 {
     if crate::LAST_MESSAGE_TYPE < n.message_type {
-        return refusals::NETWORK_HEADER;
+        return refusals::MESSAGE_TYPE;
     }
     if crate::LAST_SLOT < n.slot {
-        return refusals::NETWORK_HEADER;
+        return refusals::SLOT;
     }
     if crate::LAST_EPOCH < n.epoch {
-        return refusals::NETWORK_HEADER;
+        return refusals::EPOCH;
     }
     if is_too_late(n) {
-        return refusals::NETWORK_HEADER;
+        return refusals::LATE_SLOT;
     }
     0
 }
