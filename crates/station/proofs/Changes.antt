@@ -21,7 +21,7 @@ use Rattle.station.specs.Plain.{Sized, Sender, Agree}
 use Rattle.station.specs.Hearing.{step, heard}
 use Rattle.station.specs.Runs.{Call, datagram, time}
 use Rattle.station.specs.Table.{IsSignal, Passed, Table, nothing, entered, again, joined, positioned, counted, ticked}
-use Rattle.station.specs.Claims.{UnreadChangesNothing, RefusalsChangeNothing, Outsider, unknown, elsewhere, another, coarse}
+use Rattle.station.specs.Claims.{UnreadChangesNothing, Quiet, RefusalsChangeNothing, Outsider, unknown, elsewhere, another, coarse}
 use Rattle.station.specs.Claims.{OutsidersChangeNothing, AdmitsNoOne, TransmittersAdmitNoOne, ClockNeverBack}
 use Rattle.station.specs.declared.Station.{Station}
 use Rattle.station.specs.declared.Own.{Own}
@@ -55,14 +55,14 @@ unread-changes-nothing s d n e = rw e
 pub refusals-change-nothing : (s : Station) → Sized s → (c : Call) → RefusalsChangeNothing s c
 refusals-change-nothing s sized c = go (only-by-rules s sized c)
   where
-    go : {c : Call} {n : ℕ} {s′ : Station} → Table s c n s′ → (n < 40) ⊎ (n ≡ 44) → s′ ≡ s
+    go : {c : Call} {n : ℕ} {s′ : Station} → Table s c n s′ → Quiet n → s′ ≡ s
     go (nothing row) w = refl
-    go (entered t i e x y z) w = absurd (⊎-elim (λ l. omega arith) (λ l. omega arith) w)
-    go (again t i e x y) w = absurd (⊎-elim (λ l. omega arith) (λ l. omega arith) w)
-    go (joined g i e x y z u) w = absurd (⊎-elim (λ l. omega arith) (λ l. omega arith) w)
-    go (positioned g i e x y z u) w = absurd (⊎-elim (λ l. omega arith) (λ l. omega arith) w)
-    go (counted g i e x y z v u) w = absurd (⊎-elim (λ l. omega arith) (λ l. omega arith) w)
-    go (ticked x y) w = absurd (⊎-elim (λ l. omega arith) (λ l. omega arith) w)
+    go (entered t i e x y z) w = absurd (w .not-entered refl)
+    go (again t i e x y) w = absurd (w .not-renewed refl)
+    go (joined g i e x y z u) w = absurd (w .not-joined refl)
+    go (positioned g i e x y z u) w = absurd (w .not-positioned refl)
+    go (counted g i e x y z v u) w = absurd (w .not-counted refl)
+    go (ticked x y) w = absurd (w .not-ticked refl)
 
 pub clock-never-back : (s : Station) → Sized s → (c : Call) → ClockNeverBack s c
 clock-never-back s sized c = go (only-by-rules s sized c)

@@ -4,7 +4,7 @@ use mathlib.Core.Path.{_≡_}
 use mathlib.Core.Bool.{true, cond}
 use mathlib.Core.List.{List, [], _∷_}
 use lib.Dec.{eqb}
-use mathlib.Core.Logic.{_⊎_, _↔_}
+use mathlib.Core.Logic.{_⊎_, _↔_, _≢_}
 use Rattle.wire.specs.Bytes.{num}
 use Rattle.occupancy.specs.Places.{held}
 use Rattle.pdu.specs.Reading.{reading}
@@ -115,9 +115,18 @@ OnlyByRules s c = Table s c (called s c .answer) (called s c .station)
 abbrev pub UnreadChangesNothing : Station → List ℕ → Type 0
 UnreadChangesNothing s d = (n : ℕ) → reading d ≡ Refused n → heard s d ≡ answering n s
 
--- Every answer below 40 (30 to 36 among them), and 44, leaves the whole station as it was.
+-- An answer that is none of the six by which a station changes: the reader's numbers, 30 to 36 and 44 are left.
+pub record Quiet (n : ℕ) : Type 0 where
+  pub not-entered : n ≢ 40
+  pub not-renewed : n ≢ 41
+  pub not-joined : n ≢ 42
+  pub not-positioned : n ≢ 43
+  pub not-ticked : n ≢ 46
+  pub not-counted : n ≢ 47
+
+-- Every such answer leaves the whole station as it was.
 abbrev pub RefusalsChangeNothing : Station → Call → Type 0
-RefusalsChangeNothing s c = (called s c .answer < 40) ⊎ (called s c .answer ≡ 44) → called s c .station ≡ s
+RefusalsChangeNothing s c = Quiet (called s c .answer) → called s c .station ≡ s
 
 -- Why a Signal's sender is an outsider: its key is unknown, it is on another net, its ID differs from the station's and neither is zero, or it
 -- is not fine.
