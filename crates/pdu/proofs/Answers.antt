@@ -170,17 +170,13 @@ taken-exactly-when d =
       signal-content = λ s n e. let h = as-signal d s n (signal s n e .1) in (h .1, h .2);
     }
 
--- what writing answers, by a verdict on its rules
-by-verdict : (r : Reading) (room : ℕ) (plain : List Rule) → Verdict (writingRules r room) plain → WrittenExactly r plain room
-by-verdict r room plain v =
-    record {
-      written-size = Iff·trans (size (eqb (writingRefusal r room) 0) refl) (v .none);
-      refused = λ n. Iff·trans (number (eqb (writingRefusal r room) 0) refl n) (v .some n);
-    }
+-- writing: the size, where no rule is broken
+pub writes-size : (r : Reading) (room : ℕ) → (written r room ≡ Size (sizeOf r)) ↔ (writingRefusal r room ≡ 0)
+writes-size r room = by (eqb (writingRefusal r room) 0) refl
   where
-    size : (b : Bool) → eqb (writingRefusal r room) 0 ≡ b → (written r room ≡ Size (sizeOf r)) ↔ (writingRefusal r room ≡ 0)
-    size true t = (λ e. eqb-true _ _ t, λ e. rw t)
-    size false t = (
+    by : (b : Bool) → eqb (writingRefusal r room) 0 ≡ b → (written r room ≡ Size (sizeOf r)) ↔ (writingRefusal r room ≡ 0)
+    by true t = (λ e. eqb-true _ _ t, λ e. rw t)
+    by false t = (
       λ e.
           let other : NotWritten (writingRefusal r room) ≡ Size (sizeOf r) = rw t at e in
           let z : _≡_ {A = ℕ} 0 1 = cc in
@@ -188,21 +184,30 @@ by-verdict r room plain v =
       λ e. absurd (eqb-false _ _ t e),
     )
 
-    number : (b : Bool) → eqb (writingRefusal r room) 0 ≡ b → (n : ℕ) → (written r room ≡ NotWritten n) ↔ ((writingRefusal r room ≡ n) × (n ≢ 0))
-    number true t n = (
+-- and a refusal, by the first that is
+pub writes-refused : (r : Reading) (room n : ℕ) → (written r room ≡ NotWritten n) ↔ ((writingRefusal r room ≡ n) × (n ≢ 0))
+writes-refused r room n = by (eqb (writingRefusal r room) 0) refl
+  where
+    by : (b : Bool) → eqb (writingRefusal r room) 0 ≡ b → (written r room ≡ NotWritten n) ↔ ((writingRefusal r room ≡ n) × (n ≢ 0))
+    by true t = (
       λ e.
           let other : Size (sizeOf r) ≡ NotWritten n = rw t at e in
           let z : _≡_ {A = ℕ} 0 1 = cc in
           absurd (omega arith),
       λ h. absurd (h .1 (sym (h .0) ∙ eqb-true _ _ t)),
     )
-    number false t n = (
+    by false t = (
       λ e.
           let same : NotWritten (writingRefusal r room) ≡ NotWritten n = rw t at e in
           let number : writingRefusal r room ≡ n = cc in
           (number, λ z. eqb-false _ _ t (number ∙ z)),
       λ h. rw t (ap NotWritten (h .0)),
     )
+
+-- by a verdict on the rules
+by-verdict : (r : Reading) (room : ℕ) (plain : List Rule) → Verdict (writingRules r room) plain → WrittenExactly r plain room
+by-verdict r room plain v =
+    record { written-size = Iff·trans (writes-size r room) (v .none); refused = λ n. Iff·trans (writes-refused r room n) (v .some n) }
 
 -- for every record, body size and room, without a premise
 pub transmitter-written-exactly : (t : Transmitter) (room : ℕ) → WrittenExactly (aTransmitter t) (plainTransmitterWriting t room) room

@@ -21,7 +21,7 @@ use Rattle.wire.proofs.FitLaws.{bytes-take, bytes-drop, fit-read}
 use Rattle.wire.proofs.AppendLaws.{width-append, read-append, clear-append, blank-append, fixed-append, sound-append, length-read, read-part}
 use Rattle.wire.proofs.AppendLaws.{clear-part, fill-append, fit-append}
 use Rattle.pdu.specs.Tables.{fillOf, isTiming, timingSlots, bodySlots, bodyTable}
-use Rattle.pdu.specs.Forms.{bodyValues, bodyBytes}
+use Rattle.pdu.specs.Forms.{bodyValues, bodyCleared, bodyBytes}
 use Rattle.pdu.specs.Bodies.{bodyWritten}
 use Rattle.pdu.specs.Plain.{TimingRule}
 use Rattle.pdu.specs.Places.{plainGiven}
@@ -110,12 +110,12 @@ pub given-timing : (type n : ℕ) (body : List ℕ)
     → TimingRule type n
     → Bytes body
     → length body ≡ n
-    → clear 0 (bodySlots type n) body ≡ big 2 (num 2 0 body % 8) ++ drop 2 body
+    → bodyCleared type n body ≡ big 2 (num 2 0 body % 8) ++ drop 2 body
 given-timing type n body t six b long =
     let whole : n ≡ 6 = six (one-of _ _ (equal type _) (equal type _) .0 t) in
     ap (λ (s : List Slot). clear 0 s body) (timing-slots type n t ∙ ap timingSlots whole) ∙ timing-clear body b (long ∙ whole)
 
-pub given-unread : (type n : ℕ) (body : List ℕ) → isTiming type ≡ false → Bytes body → length body ≡ n → clear 0 (bodySlots type n) body ≡ body
+pub given-unread : (type n : ℕ) (body : List ℕ) → isTiming type ≡ false → Bytes body → length body ≡ n → bodyCleared type n body ≡ body
 given-unread type n body t b long =
     ap (λ (s : List Slot). clear 0 s body) (unread-slots type n t)
     ∙ append-nil (big n (num n 0 body))
@@ -127,10 +127,10 @@ pub body-given : (type n : ℕ) (body : List ℕ)
     → Bytes body
     → length body ≡ n
     → TimingRule type n
-    → clear 0 (bodySlots type n) body ≡ plainGiven type body
+    → bodyCleared type n body ≡ plainGiven type body
 body-given type n body b long six = by (isTiming type) refl
   where
-    by : (t : Bool) → isTiming type ≡ t → clear 0 (bodySlots type n) body ≡ plainGiven type body
+    by : (t : Bool) → isTiming type ≡ t → bodyCleared type n body ≡ plainGiven type body
     by true t =
         given-timing type n body t six b long
         ∙ ap (λ (l : List ℕ). l ++ drop 2 body) (two-bytes (num 1 0 body) (getD body 1 0) (b 1))
@@ -151,7 +151,7 @@ given-at type n o d b inside six =
     six
 
 -- written with padding zero, it has the same values
-pub given-values : (type n : ℕ) (body : List ℕ) → Bytes body → TimingRule type n → bodyValues type n (clear 0 (bodySlots type n) body) ≡ bodyValues type n body
+pub given-values : (type n : ℕ) (body : List ℕ) → Bytes body → TimingRule type n → bodyValues type n (bodyCleared type n body) ≡ bodyValues type n body
 given-values type n body b six =
     let t : List Slot = bodySlots type n in
     let xs : List ℕ = bodyValues type n body in
@@ -202,7 +202,7 @@ body-clear type n o d =
     clear-append (bodySlots type n) (padding (fillOf n) ∷ []) o d ∙ ap (λ (l : List ℕ). clear o (bodySlots type n) d ++ l) (zeros-of (fillOf n))
 
 pub body-written : (type n : ℕ) (body : List ℕ)
-    → fill (bodyTable type n) (bodyValues type n body) ≡ clear 0 (bodySlots type n) body ++ replicate (fillOf n) 0
+    → fill (bodyTable type n) (bodyValues type n body) ≡ bodyCleared type n body ++ replicate (fillOf n) 0
 body-written type n body =
     ap (fill (bodyTable type n)) (sym (append-nil (bodyValues type n body)))
     ∙ fill-append (bodySlots type n) (padding (fillOf n) ∷ []) (bodyValues type n body) [] (length-read (bodySlots type n) 0 body)

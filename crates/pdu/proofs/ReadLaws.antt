@@ -4,17 +4,17 @@
 use Prim.Native.Nat.{ℕ, _+_, _*_, _≤_}
 use mathlib.Core.Path.{_≡_, refl, sym, ap, ap₂, subst, _∙_}
 use mathlib.Core.Logic.{_≢_, _⊎_}
-use mathlib.Core.Bool.{Bool, true, false, not, _&&_, true≢false}
-use mathlib.Core.List.{List, [], _∷_, _++_}
+use mathlib.Core.Bool.{Bool, true, false, _&&_, true≢false}
+use mathlib.Core.List.{List, _++_}
 use lib.ListN.{length, take, drop, length-drop}
 use lib.Seq.{length-take-le}
 use lib.Dec.{eqb, leb}
-use borrow.Author.Tests.{eqb-true, eqb-false, eq-eqb, ne-eqb, not-true}
+use borrow.Author.Tests.{eqb-true, eqb-false, eq-eqb, ne-eqb}
 use native.Mathlib.Omega.{arith}
 use Rattle.wire.specs.Bytes.{num, splice}
 use Rattle.wire.proofs.ByteLaws.{splice-start}
-use Rattle.wire.specs.First.{Refusal, _given-when_, first, numbered}
-use Rattle.wire.proofs.FirstLaws.{first-here, first-next, none-of}
+use Rattle.wire.specs.First.{first, lacks, numbered}
+use Rattle.wire.proofs.FirstLaws.{first-here, first-next, none-of, first-lacks}
 use Rattle.wire.specs.Table.{allBlank}
 use Rattle.wire.proofs.TableLaws.{both-true}
 use Rattle.wire.proofs.RuleLaws.{at-most, both}
@@ -26,14 +26,13 @@ use Rattle.pdu.specs.Tables.{signalSize}
 use Rattle.pdu.specs.Reading.{bodySize, content, bodyOf, wrongLength, startRules, transmitterLayout, signalLayout, layoutRules}
 use Rattle.pdu.specs.Reading.{formRules, readingRules, refusal, reading}
 use Rattle.pdu.specs.Plain.{TimingRule, NoThirteen}
-use Rattle.pdu.specs.Writing.{recordRules, writingRules, writingRefusal, written, outputAfter, writtenForm, writtenAs, inWrittenForm}
+use Rattle.pdu.specs.Writing.{recordRules, writingRules, writingRefusal, outputAfter, writtenForm, writtenAs, inWrittenForm}
 use Rattle.pdu.specs.declared.Signal.{Signal}
 use Rattle.pdu.specs.declared.Reading.{Reading}
 use Rattle.pdu.specs.declared.Reading.the-variants.{Refused, Transmitter as aTransmitter, Signal as aSignal}
-use Rattle.pdu.specs.declared.Written.the-variants.{Refused as NotWritten, Size}
 use Rattle.pdu.proofs.Agreement.{length-says, content-transmitter, content-signal, start-verdict, transmitter-layout, signal-layout}
 use Rattle.pdu.proofs.Agreement.{inner-record, signal-record}
-use Rattle.pdu.proofs.Answers.{Holds, reads-as, refuses-as, reading-taken, reading-refused}
+use Rattle.pdu.proofs.Answers.{Holds, reads-as, refuses-as, reading-taken, reading-refused, writes-refused}
 use Rattle.pdu.proofs.Taken.{Taken, taken, signal-bounds}
 use Rattle.pdu.proofs.RoundTrip.{length-form, written-form-back, written-back}
 
@@ -189,70 +188,52 @@ pub taken-signal : (d : List ℕ) → refusal d ≡ 0 → num 1 2 d ≢ 25 → f
 taken-signal d e type =
     subst (λ (r : Reading). first (layoutRules r d) ≡ 0) (content-signal d type) (taken-parts d e .1)
 
--- ---- the numbers that reading gives
+-- ---- the numbers that reading and writing do not give
 
--- whether every number of a list of rules is outside 16 to 49
-abbrev apart : List Refusal → Bool
-apart [] = true
-apart ((n given-when broken) ∷ rest) = not (leb 16 n && leb n 49) && apart rest
+-- the rules of reading, and of writing, lack what each list of them lacks by its form
+reading-lacks : (sort : ℕ → Bool) (d : List ℕ)
+    → ((r : Reading) → lacks sort (startRules d ++ formRules r d) ≡ true)
+    → sort 0 ≡ false
+    → sort (refusal d) ≡ false
+unfolding refusal readingRules
+reading-lacks sort d form z = first-lacks sort (readingRules d) z (form (content d))
 
-first-apart : (rules : List Refusal) (k : ℕ) → apart rules ≡ true → 16 ≤ k → k ≤ 49 → first rules ≡ k → ⊥
-first-apart [] k e low high q = omega arith
-first-apart ((n given-when true) ∷ rest) k e low high q =
-    let inside : (leb 16 n && leb n 49) ≡ true = both (leb 16 n) (leb n 49) (at-most 16 n) (at-most n 49) .1 (omega arith, omega arith) in
-    let outside : (leb 16 n && leb n 49) ≡ false = not-true _ (both-true (not (leb 16 n && leb n 49)) (apart rest) e .0) in
-    true≢false (sym inside ∙ outside)
-first-apart ((n given-when false) ∷ rest) k e low high q =
-    first-apart rest k (both-true (not (leb 16 n && leb n 49)) (apart rest) e .1) low high q
+-- 16 to 49: the writer's 16, the trunk's numbers and the station's
+abbrev isOthers : ℕ → Bool
+isOthers n = leb 16 n && leb n 49
 
--- the writer's 16, the trunk's numbers and the station's are never the reader's
+-- they are never the reader's
 pub refusal-apart : (d : List ℕ) (k : ℕ) → 16 ≤ k → k ≤ 49 → refusal d ≡ k → ⊥
-unfolding refusal readingRules startRules transmitterLayout signalLayout innerRules networkRules accessRules slotRules bodyRules
-refusal-apart d k low high e = first-apart (startRules d ++ formRules (content d) d) k (by-form (content d)) low high e
+unfolding startRules transmitterLayout signalLayout innerRules networkRules accessRules slotRules bodyRules
+refusal-apart d k low high e = true≢false (sym inside ∙ reading-lacks isOthers d by-form refl)
   where
-    by-form : (r : Reading) → apart (startRules d ++ formRules r d) ≡ true
+    inside : isOthers (refusal d) ≡ true
+    inside = both _ _ (at-most 16 (refusal d)) (at-most (refusal d) 49) .1 (omega arith, omega arith)
+
+    by-form : (r : Reading) → lacks isOthers (startRules d ++ formRules r d) ≡ true
     by-form (Refused n) = refl
     by-form (aTransmitter t) = refl
     by-form (aSignal s n) = refl
 
--- ---- no 13
+-- 02, R-3: no 13
+abbrev isThirteen : ℕ → Bool
+isThirteen n = eqb n 13
 
--- whether no rule of a list has this number
-abbrev lacks : ℕ → List Refusal → Bool
-lacks k [] = true
-lacks k ((n given-when broken) ∷ rest) = not (eqb n k) && lacks k rest
-
-first-lacks : (k : ℕ) (rules : List Refusal) → lacks k rules ≡ true → k ≢ 0 → first rules ≢ k
-first-lacks k [] e some q = some (sym q)
-first-lacks k ((n given-when true) ∷ rest) e some q =
-    eqb-false n k (not-true _ (both-true (not (eqb n k)) (lacks k rest) e .0)) q
-first-lacks k ((n given-when false) ∷ rest) e some q = first-lacks k rest (both-true (not (eqb n k)) (lacks k rest) e .1) some q
-
-reading-lacks : (r : Reading) (d : List ℕ) → lacks 13 (startRules d ++ formRules r d) ≡ true
+read-without : (d : List ℕ) (r : Reading) → lacks isThirteen (startRules d ++ formRules r d) ≡ true
 unfolding startRules transmitterLayout signalLayout innerRules networkRules accessRules slotRules bodyRules
-reading-lacks (Refused n) d = refl
-reading-lacks (aTransmitter t) d = refl
-reading-lacks (aSignal s n) d = refl
+read-without d (Refused n) = refl
+read-without d (aTransmitter t) = refl
+read-without d (aSignal s n) = refl
 
-writing-lacks : (r : Reading) (room : ℕ) → lacks 13 (writingRules r room) ≡ true
+write-without : (r : Reading) (room : ℕ) → lacks isThirteen (writingRules r room) ≡ true
 unfolding writingRules recordRules innerRules networkRules accessRules slotRules bodyRules
-writing-lacks (Refused n) room = refl
-writing-lacks (aTransmitter t) room = refl
-writing-lacks (aSignal s n) room = refl
+write-without (Refused n) room = refl
+write-without (aTransmitter t) room = refl
+write-without (aSignal s n) room = refl
 
 pub no-thirteen : NoThirteen
-unfolding refusal readingRules
 no-thirteen = record {
-  reading-gives = λ d n e q. first-lacks 13 (readingRules d) (reading-lacks (content d) d) (λ z. omega arith) (refuses-as d n .0 e .0 ∙ q);
-  writing-gives = λ r room n e q. by r room (eqb (writingRefusal r room) 0) refl (e ∙ ap NotWritten q);
+  reading-gives = λ d n e q. eqb-false (refusal d) 13 (reading-lacks isThirteen d (read-without d) refl) (refuses-as d n .0 e .0 ∙ q);
+  writing-gives = λ r room n e q.
+      eqb-false (writingRefusal r room) 13 (first-lacks isThirteen (writingRules r room) refl (write-without r room)) (writes-refused r room n .0 e .0 ∙ q);
 }
-  where
-    by : (r : Reading) (room : ℕ) (b : Bool) → eqb (writingRefusal r room) 0 ≡ b → written r room ≡ NotWritten 13 → ⊥
-    by r room true t e =
-        let other : Size (sizeOf r) ≡ NotWritten 13 = rw t at e in
-        let z : _≡_ {A = ℕ} 0 1 = cc in
-        omega arith
-    by r room false t e =
-        let same : NotWritten (writingRefusal r room) ≡ NotWritten 13 = rw t at e in
-        let number : writingRefusal r room ≡ 13 = cc in
-        first-lacks 13 (writingRules r room) (writing-lacks r room) (λ z. omega arith) number

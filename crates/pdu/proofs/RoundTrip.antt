@@ -25,7 +25,7 @@ use Rattle.pdu.specs.Numbers
 use Rattle.pdu.specs.Rules.{accessRules, slotRules, networkRules, bodyRules, innerRules}
 use Rattle.pdu.specs.Tables.{fillOf, transmitterTable, signalHead, timingSlots, bodySlots, bodyTable}
 use Rattle.pdu.specs.Records.{transmitterValues, signalValues}
-use Rattle.pdu.specs.Forms.{tableOf, bodyValues, valuesOf, bytesOf, sizeOf, bodyIn}
+use Rattle.pdu.specs.Forms.{tableOf, bodyValues, bodyCleared, valuesOf, bytesOf, sizeOf, bodyIn}
 use Rattle.pdu.specs.Reading.{content, bodyOf, refusal, numberOf}
 use Rattle.pdu.specs.Writing.{recordRules, writingRules, writingRefusal, writtenForm, paddingZero, inWrittenForm}
 use Rattle.pdu.specs.Timing.{timingAt}
@@ -137,7 +137,7 @@ again r body fit rules = takes (bytesOf r body) r body (bytes-form r body) (writ
 
 -- what is written of a Signal from byte 52 on is its body, padding zero, and the fill
 body-at : (s : Signal) (n : ℕ) (body : List ℕ)
-    → drop Numbers.bodyStart (bytesOf (aSignal s n) body) ≡ clear 0 (bodySlots (s .network .«message_type») n) body ++ replicate (fillOf n) 0
+    → drop Numbers.bodyStart (bytesOf (aSignal s n) body) ≡ bodyCleared (s .network .«message_type») n body ++ replicate (fillOf n) 0
 unfolding bytesOf
 body-at s n body =
     let message : ℕ = s .network .«message_type» in
@@ -153,7 +153,7 @@ again-body (Refused n) body = refl
 again-body (aTransmitter t) body = refl
 again-body (aSignal s n) body =
     let message : ℕ = s .network .«message_type» in
-    let given : List ℕ = clear 0 (bodySlots message n) body in
+    let given : List ℕ = bodyCleared message n body in
     ap (take n) (body-at s n body)
     ∙ take-at given (replicate (fillOf n) 0) n (length-clear 0 (bodySlots message n) body ∙ slots-width message n)
 
@@ -277,7 +277,7 @@ timing-back s body room b e = record { same = same }
         let six : TimingRule message n = signal-bounds s n (writes-rules (aSignal s n) room e) .timing in
         let slots : bodySlots message n ≡ timingSlots 6 =
         timing-slots message n (one-of _ _ (equal message _) (equal message _) .1 timing) ∙ ap timingSlots (six timing) in
-        let written : List ℕ = clear 0 (bodySlots message n) body in
+        let written : List ℕ = bodyCleared message n body in
         let long : length written ≡ 6 = length-clear 0 (bodySlots message n) body ∙ slots-width message n ∙ six timing in
         ap timingAt (again-body (aSignal s n) body)
         ∙ timing-here written long

@@ -2,14 +2,14 @@
 use Prim.Native.Nat.{ℕ, _≤_}
 use mathlib.Core.List.{List}
 use lib.ListN.{length}
-use Rattle.wire.specs.Table.{clear}
 use Rattle.pdu.specs.Numbers
-use Rattle.pdu.specs.Tables.{signalSize, bodySlots}
+use Rattle.pdu.specs.Tables.{signalSize}
+use Rattle.pdu.specs.Forms.{bodyCleared}
 use Rattle.pdu.specs.Plain.{TimingRule}
 
 -- the body of a message of this type, with the padding inside it zero (02, R-1)
 abbrev pub bodyWritten : ℕ → List ℕ → List ℕ
-bodyWritten type body = clear 0 (bodySlots type (length body)) body
+bodyWritten type body = bodyCleared type (length body) body
 
 -- a body that breaks no rule of sizes, and an output with room for the PDU
 abbrev pub BodyFits : ℕ → List ℕ → List ℕ → Type 0

@@ -2,7 +2,7 @@
 use Prim.Native.Nat.{ℕ}
 use mathlib.Core.List.{List, [], _∷_}
 use lib.ListN.{length, take, drop}
-use Rattle.wire.specs.Table.{Slot, read, fill}
+use Rattle.wire.specs.Table.{Slot, read, fill, clear}
 use Rattle.pdu.specs.Numbers
 use Rattle.pdu.specs.Tables.{signalSize, transmitterTable, bodySlots, bodyTable, signalTable}
 use Rattle.pdu.specs.Records.{transmitterValues, signalValues}
@@ -18,6 +18,10 @@ tableOf (Signal s n) = signalTable (s .network .«message_type») n
 -- the values of a body of n bytes in a message of this type
 abbrev pub bodyValues : ℕ → ℕ → List ℕ → List ℕ
 bodyValues type n body = read 0 (bodySlots type n) body
+
+-- such a body with the padding inside it zero (02, R-1)
+abbrev pub bodyCleared : ℕ → ℕ → List ℕ → List ℕ
+bodyCleared type n body = clear 0 (bodySlots type n) body
 
 -- the values in the table's order, with the body given
 abbrev pub valuesOf : Reading → List ℕ → List ℕ

@@ -5,9 +5,7 @@ use mathlib.Core.Logic.{_⊎_}
 use mathlib.Core.List.{List, [], _++_}
 use lib.ListN.{length, drop}
 use Rattle.wire.specs.Bytes.{Bytes}
-use Rattle.wire.specs.Table.{clear}
-use Rattle.pdu.specs.Tables.{bodySlots}
-use Rattle.pdu.specs.Forms.{sizeOf, bodyIn, bytesOf}
+use Rattle.pdu.specs.Forms.{sizeOf, bodyIn, bodyCleared, bytesOf}
 use Rattle.pdu.specs.Reading.{content, bodyOf, reading}
 use Rattle.pdu.specs.Writing.{written, outputAfter, writtenForm, paddingZero}
 use Rattle.pdu.specs.Timing.{timingAt}
@@ -26,7 +24,7 @@ pub record WrittenBack (d out : List ℕ) : Type 0 where
 abbrev pub bodyGiven : Reading → List ℕ → List ℕ
 bodyGiven (Refused n) body = []
 bodyGiven (Transmitter t) body = []
-bodyGiven (Signal s n) body = clear 0 (bodySlots (s .network .«message_type») n) body
+bodyGiven (Signal s n) body = bodyCleared (s .network .«message_type») n body
 
 -- and its length
 abbrev pub bodyLength : Reading → ℕ

@@ -1,12 +1,13 @@
 -- Laws of refusals in order: what a list with no broken rule says of each rule, and how two lists in a row answer.
 -- Each goes by the test of the first rule.
 -- Assumes nothing.
+use Prim.Native.Nat.{ℕ}
 use mathlib.Core.Path.{_≡_, refl}
-use mathlib.Core.Bool.{true, false, not}
+use mathlib.Core.Bool.{Bool, true, false, not}
 use mathlib.Core.List.{List, [], _∷_, _++_}
 use lib.Dec.{eqb}
 use borrow.Author.Tests.{eqb-false, not-true}
-use Rattle.wire.specs.First.{Refusal, _given-when_, first, numbered}
+use Rattle.wire.specs.First.{Refusal, _given-when_, first, lacks, numbered}
 use Rattle.wire.specs.Plain.{Unbroken}
 use Rattle.wire.proofs.TableLaws.{both-true}
 
@@ -36,3 +37,9 @@ none-of [] b u e = (refl, e)
 none-of ((n given-when true) ∷ a) b u e =
     elim (eqb-false n 0 (not-true (eqb n 0) (both-true (not (eqb n 0)) (numbered a) u .0)) e) [ ]
 none-of ((n given-when false) ∷ a) b u e = none-of a b (both-true (not (eqb n 0)) (numbered a) u .1) e
+
+-- the number given is of no sort that the rules lack, where 0 is of none
+pub first-lacks : (sort : ℕ → Bool) (rs : List Refusal) → sort 0 ≡ false → lacks sort rs ≡ true → sort (first rs) ≡ false
+first-lacks sort [] z u = z
+first-lacks sort ((n given-when true) ∷ rs) z u = not-true (sort n) (both-true (not (sort n)) (lacks sort rs) u .0)
+first-lacks sort ((n given-when false) ∷ rs) z u = first-lacks sort rs z (both-true (not (sort n)) (lacks sort rs) u .1)

@@ -14,10 +14,14 @@ abbrev pub first : List Refusal → ℕ
 first [] = 0
 first ((n given-when broken) ∷ rest) = cond broken n (first rest)
 
+-- whether no rule has a number of this sort
+abbrev pub lacks : (ℕ → Bool) → List Refusal → Bool
+lacks sort [] = true
+lacks sort ((n given-when broken) ∷ rest) = not (sort n) && lacks sort rest
+
 -- whether no rule has the number 0, which says that none is broken
 abbrev pub numbered : List Refusal → Bool
-numbered [] = true
-numbered ((n given-when broken) ∷ rest) = not (eqb n 0) && numbered rest
+numbered rules = lacks (λ n. eqb n 0) rules
 
 -- what a call says in document 01's numbers: a refusal's number alone, or 0 and the values of its answer
 abbrev pub told : ℕ → List ℕ → List ℕ
