@@ -1,5 +1,6 @@
 /*
- * Altuvrin: what the proved readers answer to a datagram and to a trunk record.
+ * Altuvrin: what the proved readers answer to a datagram, live or of an old capture, and to a
+ * trunk record.
  *
  *     uint64_t answer = altuvrin_datagram(bytes, length);
  *     if (altuvrin_number(answer) == ALTUVRIN_TAKEN)
@@ -23,8 +24,9 @@ extern "C" {
 /*
  * The answer numbers of reading. The first that applies is given, in this order:
  *     Transmitter  1 2 3 4 5 6 7 8 9
- *     Signal       1 2 3 4 10 11 12 8 131 132 133 134 135 136 137 138 14 15
+ *     Signal       1 2 3 4 10 11 12 8 131 132 133 134 135 136 137 138 50 14 15
  *     record       20 21 25 22
+ * altuvrin_archive never gives 50, and has the same order without it.
  */
 enum altuvrin_answer {
     /* A Link 16 Transmitter or Signal PDU, or a trunk record; the size is that of the whole. */
@@ -73,10 +75,13 @@ enum altuvrin_answer {
     ALTUVRIN_EPOCH = 137,
     /* The slot is above 49,151 in epoch 112. */
     ALTUVRIN_LATE_SLOT = 138,
+    /* The message type is 3, 4 or 5: voice, which is retired. altuvrin_archive still takes it. */
+    ALTUVRIN_RETIRED = 50,
     /* The body of message type 0 is not 6 bytes and whole words of 10, or that of type 1 or 2
      * (round-trip timing) is not 6 bytes. */
     ALTUVRIN_BODY_SIZE = 14,
-    /* More than 12 words in message type 0, or more than 256 bytes in types 3 to 7. */
+    /* More than 12 words in message type 0, or more than 256 bytes in types 6 and 7; in
+     * altuvrin_archive also in types 3 to 5. */
     ALTUVRIN_BODY_LIMIT = 15,
     /* The first byte is no kind of trunk record: not 0 to 12, 16, 17, 18 or 32. */
     ALTUVRIN_RECORD_KIND = 20,
@@ -92,7 +97,7 @@ enum altuvrin_answer {
 };
 
 /*
- * Both calls ask one thing of the caller: from `bytes` on, `length` bytes must be readable, and
+ * Each call asks one thing of the caller: from `bytes` on, `length` bytes must be readable, and
  * nobody may write them during the call. NULL is allowed where `length` is 0; that is an empty
  * datagram or record. Whatever stands in the bytes, there is an answer.
  *
@@ -105,6 +110,14 @@ enum altuvrin_answer {
  * taken apart by altuvrin_number and altuvrin_size.
  */
 uint64_t altuvrin_datagram(const uint8_t *bytes, size_t length);
+
+/*
+ * Reads a datagram of an old capture: takes voice (message types 3, 4 and 5) too, with a body of up
+ * to 256 bytes, as altuvrin_datagram did until voice was retired. On every datagram that
+ * altuvrin_datagram does not refuse with 50 its answer is the same. What it takes as voice is not
+ * for the line: no record carries it.
+ */
+uint64_t altuvrin_archive(const uint8_t *bytes, size_t length);
 
 /*
  * Reads `length` bytes as one trunk record, whole: a kind, a number, and the PDU that the kind
@@ -149,6 +162,7 @@ static inline const char *altuvrin_reason(uint32_t number)
     case ALTUVRIN_SLOT: return "slot above 98,303";
     case ALTUVRIN_EPOCH: return "epoch above 112";
     case ALTUVRIN_LATE_SLOT: return "slot too late in epoch 112";
+    case ALTUVRIN_RETIRED: return "retired message type";
     case ALTUVRIN_BODY_SIZE: return "size of the body";
     case ALTUVRIN_BODY_LIMIT: return "body too long";
     case ALTUVRIN_RECORD_KIND: return "kind of record";

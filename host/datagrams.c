@@ -79,6 +79,11 @@ void make_timing(struct datagram *datagram, uint32_t message_type)
     make_signal(datagram, message_type, TIMING_SIZE);
 }
 
+bool is_voice(uint32_t message_type)
+{
+    return FIRST_VOICE <= message_type && message_type <= LAST_VOICE;
+}
+
 void resize_body(struct datagram *datagram, size_t body_bytes)
 {
     size_t data_bytes = NETWORK_HEADER_SIZE + body_bytes;

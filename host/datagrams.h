@@ -1,11 +1,12 @@
 /*
  * Builds Link 16 datagrams for the example host and for the tests. Every number here stands in
  * document 01: "Bytes 0 to 19, both PDUs", "Transmitter, 112 bytes" and "Signal"; those of
- * round-trip timing in document 02, R-1.
+ * round-trip timing in document 02, R-1, and those of voice in R-4.
  */
 #ifndef DATAGRAMS_H
 #define DATAGRAMS_H
 
+#include <stdbool.h>
 #include <stddef.h>
 #include <stdint.h>
 
@@ -84,6 +85,8 @@ enum {
     NO_SECURITY_SETTING = 255,
     RTT = 1,
     RTT_REPLY = 2,
+    FIRST_VOICE = 3,
+    LAST_VOICE = 5,
     LAST_MESSAGE_TYPE = 7,
     SLOT_ID_PADDING = 0x00FE0000,
     LAST_SLOT = 98303,
@@ -134,6 +137,9 @@ void make_words(struct datagram *datagram, size_t words);
 
 /* A Signal of round-trip timing: message type 1 or 2. */
 void make_timing(struct datagram *datagram, uint32_t message_type);
+
+/* Whether a message type is one of voice. */
+bool is_voice(uint32_t message_type);
 
 /* Gives a Signal another body size; data length, fill and length field follow. */
 void resize_body(struct datagram *datagram, size_t body_bytes);

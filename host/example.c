@@ -1,4 +1,5 @@
-/* An example host: hands a few datagrams and records to Altuvrin and prints each answer. */
+/* An example host: hands a few datagrams and records, and a datagram of an old capture, to Altuvrin
+ * and prints each answer. */
 #include "altuvrin.h"
 #include "datagrams.h"
 #include "records.h"
@@ -19,6 +20,11 @@ static void print(const char *what, uint64_t answer)
 static void show(const char *what, const struct datagram *datagram)
 {
     print(what, altuvrin_datagram(datagram->bytes, datagram->length));
+}
+
+static void show_captured(const char *what, const struct datagram *datagram)
+{
+    print(what, altuvrin_archive(datagram->bytes, datagram->length));
 }
 
 static void show_record(const char *what, const struct datagram *record)
@@ -57,6 +63,9 @@ static void show_signals(void)
     show("Signal of type 1, 6 bytes", &datagram);
     resize_body(&datagram, TIMING_SIZE + 1);
     show("Signal of type 1, 7 bytes", &datagram);
+    make_signal(&datagram, FIRST_VOICE, BODY_MAX);
+    show("Signal of type 3, 256 bytes", &datagram);
+    show_captured("The same, of an old capture", &datagram);
     make_signal(&datagram, LAST_MESSAGE_TYPE, BODY_MAX);
     show("Signal of type 7, 256 bytes", &datagram);
     datagram.length = START_SIZE - 1;

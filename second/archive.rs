@@ -4,6 +4,7 @@ use crate::pdu::read::Answer;
 
 extern "C" {
     pub fn altuvrin_datagram(bytes: *const u8, length: usize) -> u64;
+    pub fn altuvrin_archive(bytes: *const u8, length: usize) -> u64;
     pub fn altuvrin_record(bytes: *const u8, length: usize) -> u64;
 }
 
@@ -11,6 +12,12 @@ extern "C" {
 pub fn datagram(bytes: &[u8]) -> Answer {
     // SAFETY: the pointer and the length are those of a slice, which the archive only reads.
     unpack(unsafe { altuvrin_datagram(bytes.as_ptr(), bytes.len()) })
+}
+
+/// The archive's answer to a datagram of an old capture, by archive reading.
+pub fn archive_reading(bytes: &[u8]) -> Answer {
+    // SAFETY: as for a datagram.
+    unpack(unsafe { altuvrin_archive(bytes.as_ptr(), bytes.len()) })
 }
 
 /// The archive's answer to a record.

@@ -18,6 +18,7 @@ mod random;
 mod sample;
 mod trunk;
 
+use compare::archive_reading::ARCHIVE_READING;
 use compare::datagrams::DATAGRAMS;
 use compare::jobs::JOBS;
 use compare::lister::LISTER;
@@ -28,7 +29,7 @@ use std::path::Path;
 use std::process::ExitCode;
 
 const USAGE: &str = "usage:
-  second compare [--seed S] [--count N]           the archive's answers to N datagrams
+  second compare [--seed S] [--count N]           the archive's answers to N datagrams, by both readings
   second compare-records [--seed S] [--count N]   the archive's answers to N trunk records
   second compare-lister --lister PROGRAM [--seed S] [--count N]   a lister on N streams
   second compare-replay --replay PROGRAM [--seed S] [--count N]   a replay on N calls
@@ -41,6 +42,7 @@ const USAGE: &str = "usage:
   second compare-codec --codec PROGRAM --input FILE     a codec on these lines
   second compare-jobs --bench PROGRAM --input FILE      a bench program on these jobs
   second one HEX      both answers to one datagram; - is an empty one
+  second archive HEX  both answers to one datagram of an old capture; - is an empty one
   second record HEX   both answers to one record; - is an empty one
   second list         list the trunk records on standard input, as the lister does
   second replay       make the calls on standard input, as replay does
@@ -86,6 +88,7 @@ fn run(words: &[&str]) -> Result<ExitCode, String> {
             compare::plans::run(Path::new(planner), Path::new(plancheck), seed, count)
         }
         ["one", text] => Ok(compare::compare_one(&DATAGRAMS, &bytes(text)?)),
+        ["archive", text] => Ok(compare::compare_one(&ARCHIVE_READING, &bytes(text)?)),
         ["record", text] => Ok(compare::compare_one(&RECORDS, &bytes(text)?)),
         ["list"] => print(trunk::lister::list(&input()?)),
         ["replay"] => print(trunk::replay::run(&input()?)),

@@ -24,6 +24,7 @@ pub enum Refusal {
     Slot = 136,
     Epoch = 137,
     LateSlot = 138,
+    Retired = 50,
     BodySize = 14,
     BodyLimit = 15,
     Output = 16,

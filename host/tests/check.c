@@ -26,13 +26,22 @@ void check_end(void)
         passed++;
 }
 
-/* A call of the archive. */
-typedef uint64_t call(const uint8_t *bytes, size_t length);
+/* A call of the library, with its name. */
+struct call {
+    const char *name;
+    uint64_t (*function)(const uint8_t *bytes, size_t length);
+};
 
-static void print_failure(const uint8_t *bytes, size_t length, uint64_t answer, uint32_t number,
+static const struct call DATAGRAM = {"altuvrin_datagram", altuvrin_datagram};
+static const struct call ARCHIVE = {"altuvrin_archive", altuvrin_archive};
+static const struct call RECORD = {"altuvrin_record", altuvrin_record};
+
+static void print_failure(struct call call, const uint8_t *bytes, size_t length, uint32_t number,
                           uint32_t size)
 {
+    uint64_t answer = call.function(bytes, length);
     printf("FAILED: %s\n", current);
+    printf("  call:     %s\n", call.name);
     printf("  expected: number %u, size %u\n", number, size);
     printf("  got:      number %u, size %u\n", altuvrin_number(answer), altuvrin_size(answer));
     printf("  reason:   %s\n", altuvrin_reason(altuvrin_number(answer)));
@@ -48,37 +57,52 @@ static bool has_reason(uint32_t number)
     return strcmp(altuvrin_reason(number), altuvrin_reason(UINT32_MAX)) != 0;
 }
 
-static void compare(call *call, const uint8_t *bytes, size_t length, uint32_t number, uint32_t size)
+static void compare(struct call call, const uint8_t *bytes, size_t length, uint32_t number,
+                    uint32_t size)
 {
-    uint64_t answer = call(bytes, length);
+    uint64_t answer = call.function(bytes, length);
     bool same = altuvrin_number(answer) == number && altuvrin_size(answer) == size;
     if (same && has_reason(number))
         return;
     if (!current_failed)
-        print_failure(bytes, length, answer, number, size);
+        print_failure(call, bytes, length, number, size);
     current_failed = true;
 }
 
-static void compare_whole(call *call, const struct datagram *datagram, uint32_t number)
+static void compare_whole(struct call call, const struct datagram *datagram, uint32_t number)
 {
     uint32_t size = number == ALTUVRIN_TAKEN ? (uint32_t)datagram->length : 0;
     compare(call, datagram->bytes, datagram->length, number, size);
 }
 
+void sample_readings(const struct datagram *datagram, uint32_t live, uint32_t archive)
+{
+    compare_whole(DATAGRAM, datagram, live);
+    compare_whole(ARCHIVE, datagram, archive);
+}
+
 void sample(const struct datagram *datagram, uint32_t number)
 {
-    compare_whole(altuvrin_datagram, datagram, number);
+    sample_readings(datagram, number, number);
 }
 
 void sample_record(const struct datagram *record, uint32_t number)
 {
-    compare_whole(altuvrin_record, record, number);
+    compare_whole(RECORD, record, number);
 }
 
 void check(const char *what, const struct datagram *datagram, uint32_t number)
 {
     check_begin(what);
     sample(datagram, number);
+    check_end();
+}
+
+void check_readings(const char *what, const struct datagram *datagram, uint32_t live,
+                    uint32_t archive)
+{
+    check_begin(what);
+    sample_readings(datagram, live, archive);
     check_end();
 }
 
@@ -93,7 +117,16 @@ void check_bytes(const char *what, const uint8_t *bytes, size_t length, uint32_t
                  uint32_t size)
 {
     check_begin(what);
-    compare(altuvrin_datagram, bytes, length, number, size);
+    compare(DATAGRAM, bytes, length, number, size);
+    compare(ARCHIVE, bytes, length, number, size);
+    check_end();
+}
+
+void check_archive_bytes(const char *what, const uint8_t *bytes, size_t length, uint32_t number,
+                         uint32_t size)
+{
+    check_begin(what);
+    compare(ARCHIVE, bytes, length, number, size);
     check_end();
 }
 
@@ -101,7 +134,7 @@ void check_record_bytes(const char *what, const uint8_t *bytes, size_t length, u
                         uint32_t size)
 {
     check_begin(what);
-    compare(altuvrin_record, bytes, length, number, size);
+    compare(RECORD, bytes, length, number, size);
     check_end();
 }
 

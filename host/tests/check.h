@@ -14,17 +14,29 @@
 void check_begin(const char *what);
 void check_end(void);
 
-/* A sample: the archive answers this number, and the datagram's length as size where it is 0. */
+/*
+ * A sample: live reading and archive reading both answer this number, and the datagram's length as
+ * size where it is 0.
+ */
 void sample(const struct datagram *datagram, uint32_t number);
+
+/* A sample to which live reading and archive reading answer each its own number. */
+void sample_readings(const struct datagram *datagram, uint32_t live, uint32_t archive);
 
 /* A check of one sample. */
 void check(const char *what, const struct datagram *datagram, uint32_t number);
+void check_readings(const char *what, const struct datagram *datagram, uint32_t live,
+                    uint32_t archive);
 
-/* A check of one answer to plain bytes. */
+/* A check of one answer to plain bytes, the same of both readings. */
 void check_bytes(const char *what, const uint8_t *bytes, size_t length, uint32_t number,
                  uint32_t size);
 
-/* The same for trunk records. */
+/* A check of archive reading's answer alone. */
+void check_archive_bytes(const char *what, const uint8_t *bytes, size_t length, uint32_t number,
+                         uint32_t size);
+
+/* The same for trunk records, of which there is one reading. */
 void sample_record(const struct datagram *record, uint32_t number);
 void check_record(const char *what, const struct datagram *record, uint32_t number);
 void check_record_bytes(const char *what, const uint8_t *bytes, size_t length, uint32_t number,

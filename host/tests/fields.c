@@ -89,6 +89,18 @@ static void test_transmitter_rules(void)
     check_range("synchronization state", SYNC_STATE, COARSE, FINE, ALTUVRIN_MODULATION);
 }
 
+/* One check: of all message types, 0 to 2, 6 and 7 are taken; archive reading takes 3 to 5 too. */
+static void check_message_types(const char *what)
+{
+    check_begin(what);
+    for (uint32_t type = 0; type < 256; type++) {
+        uint32_t archive = type <= LAST_MESSAGE_TYPE ? ALTUVRIN_TAKEN : ALTUVRIN_MESSAGE_TYPE;
+        put(&datagram, MESSAGE_TYPE, type);
+        sample_readings(&datagram, is_voice(type) ? ALTUVRIN_RETIRED : archive, archive);
+    }
+    check_end();
+}
+
 static void test_signal_rules(void)
 {
     make_words(&datagram, 0);
@@ -102,7 +114,7 @@ static void test_signal_rules(void)
     check_range("net", NET, 0, LAST_NET, ALTUVRIN_NET);
     check_security_setting("TSEC", TSEC, ALTUVRIN_TSEC);
     check_security_setting("MSEC", MSEC, ALTUVRIN_MSEC);
-    check_range("message type", MESSAGE_TYPE, 0, LAST_MESSAGE_TYPE, ALTUVRIN_MESSAGE_TYPE);
+    check_message_types("message type");
 }
 
 /* One check: each single bit of the synchronization ID, and none, at this level. */

@@ -10,5 +10,6 @@ int main(void)
     test_order();
     test_records();
     test_timing();
+    test_voice();
     return check_report();
 }

@@ -1,7 +1,8 @@
 /*
  * The order of refusals: of the rules that a datagram or a record breaks, the first in the order
- * gives the number (document 01, "The numbers" and "Sizes and edges"). Rules are broken from the
- * last to the first, because the later ones speak of what lies deeper in the bytes.
+ * gives the number (document 01, "The numbers" and "Sizes and edges"; document 02, R-3 and R-4).
+ * Rules are broken from the last to the first, because the later ones speak of what lies deeper in
+ * the bytes.
  */
 #include "../altuvrin.h"
 #include "../records.h"
@@ -15,6 +16,11 @@ static struct datagram datagram;
 static void make_signal_of_1_word(void)
 {
     make_words(&datagram, 1);
+}
+
+static void make_voice_of_257_bytes(void)
+{
+    make_signal(&datagram, FIRST_VOICE, BODY_MAX + 1);
 }
 
 static void make_level_3_transmitter(void)
@@ -163,7 +169,13 @@ static void test_signal_order(void)
         {ALTUVRIN_BODY_LIMIT, make_13_words, {0, 0}, 0},
     };
     const struct kind kind = {"Signal", check, make_signal_of_1_word, breakers, COUNT(breakers)};
+    /* Voice breaks 50, and here 15 too: each rule before 14 comes before both. */
+    const struct kind voice = {"Voice", check, make_voice_of_257_bytes, breakers,
+                               COUNT(breakers) - 2};
     check_order(&kind);
+    check_order(&voice);
+    make_voice_of_257_bytes();
+    check_readings("Voice that breaks 15", &datagram, ALTUVRIN_RETIRED, ALTUVRIN_BODY_LIMIT);
 }
 
 static void test_record_order(void)

@@ -1,4 +1,5 @@
-/* Trunk records: document 01, "The trunk" and the numbers 20, 21, 22 and 25; document 02, R-1. */
+/* Trunk records: document 01, "The trunk" and the numbers 20, 21, 22 and 25; document 02, R-1 and
+ * R-4. */
 #include "../records.h"
 #include "../altuvrin.h"
 #include "check.h"
@@ -156,10 +157,11 @@ static void test_padding(void)
     check_signal_padding(RTT_REPLY_KIND, 58, TIMING_PADDING);
 }
 
-/* Whether a Signal of this type, from 1 to 7, with a body of so many bytes is taken. */
-static bool is_taken(uint32_t type, size_t body)
+/* What archive reading answers to a Signal of this type, from 1 to 7, with so many body bytes. */
+static uint32_t archive_number(uint32_t type, size_t body)
 {
-    return (type != RTT && type != RTT_REPLY) || body == TIMING_SIZE;
+    bool timing = type == RTT || type == RTT_REPLY;
+    return timing && body != TIMING_SIZE ? ALTUVRIN_BODY_SIZE : ALTUVRIN_TAKEN;
 }
 
 /* Whether records of this kind carry Signals of this type, from 1 to 7. */
@@ -178,10 +180,11 @@ static void check_types(const struct kind *kind)
         for (size_t fill = 0; fill < FILL_MULTIPLE; fill++) {
             make_signal(&signal, type, body - fill);
             make_record_of(&record, kind->kind, 0, &signal);
-            bool taken = is_taken(type, body - fill);
-            sample(&signal, taken ? ALTUVRIN_TAKEN : ALTUVRIN_BODY_SIZE);
-            sample_record(&record, taken && carries(kind->kind, type) ? ALTUVRIN_TAKEN
-                                                                      : ALTUVRIN_RECORD_PDU);
+            uint32_t archive = archive_number(type, body - fill);
+            uint32_t live = is_voice(type) ? ALTUVRIN_RETIRED : archive;
+            bool taken = live == ALTUVRIN_TAKEN && carries(kind->kind, type);
+            sample_readings(&signal, live, archive);
+            sample_record(&record, taken ? ALTUVRIN_TAKEN : ALTUVRIN_RECORD_PDU);
         }
     }
     check_end();

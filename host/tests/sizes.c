@@ -1,4 +1,5 @@
-/* Lengths: document 01, "Signal" and the numbers 1, 4, 8, 12, 14 and 15; document 02, R-1. */
+/* Lengths: document 01, "Signal" and the numbers 1, 4, 8, 12, 14 and 15; document 02, R-1 and
+ * R-4. */
 #include "../altuvrin.h"
 #include "check.h"
 #include "tests.h"
@@ -95,7 +96,8 @@ static uint32_t number_of_words(size_t body_bytes)
                                                                   : ALTUVRIN_TAKEN;
 }
 
-/* What a body of this message type and size gets. */
+/* What a body of this message type and size gets from archive reading, and from live reading where
+ * the type is not retired. */
 static uint32_t number_of_body(uint32_t message_type, size_t body_bytes)
 {
     if (message_type == 0)
@@ -113,8 +115,9 @@ static void check_bodies(const char *what, uint32_t message_type)
 {
     check_begin(what);
     for (size_t body = 0; body <= BODY_TOLD_MAX; body++) {
+        uint32_t number = number_of_body(message_type, body);
         make_signal(&datagram, message_type, body);
-        sample(&datagram, number_of_body(message_type, body));
+        sample_readings(&datagram, is_voice(message_type) ? ALTUVRIN_RETIRED : number, number);
     }
     check_end();
 }

@@ -20,4 +20,7 @@ void test_records(void);
 /* Round-trip timing, message types 1 and 2: their size, and their body bit by bit. */
 void test_timing(void);
 
+/* Voice, message types 3 to 5: refused by live reading, taken by archive reading. */
+void test_voice(void);
+
 #endif

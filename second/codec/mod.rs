@@ -4,7 +4,7 @@ pub mod fields;
 
 use crate::hex;
 use crate::numbers::Refusal;
-use crate::pdu::read::read;
+use crate::pdu::read::{read, read_archive};
 use crate::pdu::write::write;
 use crate::pdu::{Pdu, Signal, Transmitter};
 use crate::trunk::script::{bytes, number, size};
@@ -18,6 +18,8 @@ pub const LINE_MAX: usize = 65_535;
 #[derive(Clone, Debug, PartialEq, Eq)]
 pub enum Line {
     Read(Vec<u8>),
+    /// A datagram of an old capture.
+    Archive(Vec<u8>),
     /// What is to be written, and the room for it.
     WriteTransmitter(Transmitter, usize),
     WriteSignal(Signal, Vec<u8>, usize),
@@ -62,6 +64,7 @@ impl Line {
         let mut words = Words(Some(text.split(' ')));
         let line = match words.next(Some)? {
             "read" => Line::Read(words.next(bytes)?),
+            "archive" => Line::Archive(words.next(bytes)?),
             "write" => match words.next(Some)? {
                 "transmitter" => Line::WriteTransmitter(words.record()?, words.next(size)?),
                 "signal" => {
@@ -78,7 +81,8 @@ impl Line {
     /// What the codec program prints for the line.
     pub fn answer(&self) -> String {
         match self {
-            Line::Read(datagram) => show_read(read(datagram)),
+            Line::Read(datagram) => show_reading("read", read(datagram)),
+            Line::Archive(datagram) => show_reading("archive", read_archive(datagram)),
             Line::WriteTransmitter(record, room) => show_written(&Pdu::Transmitter(*record), *room),
             Line::WriteSignal(record, body, room) => {
                 show_written(&Pdu::Signal(*record, body), *room)
@@ -87,14 +91,15 @@ impl Line {
     }
 }
 
-fn show_read(answer: Result<Pdu, Refusal>) -> String {
+/// What a reading answers, behind the call's word.
+fn show_reading(word: &str, answer: Result<Pdu, Refusal>) -> String {
     match answer {
-        Ok(Pdu::Transmitter(record)) => format!("read transmitter{}", fields::print(&record)),
+        Ok(Pdu::Transmitter(record)) => format!("{word} transmitter{}", fields::print(&record)),
         Ok(Pdu::Signal(record, body)) => {
             let (record, body) = (fields::print(&record), hex::encode(body));
-            format!("read signal{record} {body}")
+            format!("{word} signal{record} {body}")
         }
-        Err(refusal) => format!("read refused {}", refusal.number()),
+        Err(refusal) => format!("{word} refused {}", refusal.number()),
     }
 }
 
@@ -110,6 +115,7 @@ impl Display for Line {
     fn fmt(&self, f: &mut Formatter) -> fmt::Result {
         match self {
             Line::Read(datagram) => write!(f, "read {}", hex::encode(datagram)),
+            Line::Archive(datagram) => write!(f, "archive {}", hex::encode(datagram)),
             Line::WriteTransmitter(record, room) => {
                 write!(f, "write transmitter{} {room}", fields::print(record))
             }

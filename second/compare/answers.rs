@@ -18,6 +18,8 @@ const PROGRESS_STEP: u64 = 100_000;
 pub struct Subject {
     /// In the plural.
     pub name: &'static str,
+    /// The archive's call.
+    pub call: &'static str,
     pub own: fn(&[u8]) -> Answer,
     pub archive: fn(&[u8]) -> Answer,
     /// The answers, each with what it is about.
@@ -29,43 +31,54 @@ pub struct Subject {
     pub command_of_one: &'static str,
 }
 
+/// Compares so many samples in each comparison, and hands each on to further checks.
+pub fn run(
+    comparisons: &mut [Comparison],
+    name: &str,
+    (seed, count): (u64, u64),
+    mut sample: impl FnMut() -> Vec<u8>,
+    mut check: impl FnMut(&[u8]),
+) {
+    println!("seed {seed}, {count} {name}");
+    for done in 1..=count {
+        let bytes = sample();
+        for comparison in comparisons.iter_mut() {
+            comparison.compare(done, &bytes);
+        }
+        check(&bytes);
+        if done % PROGRESS_STEP == 0 {
+            eprintln!("compared {done} of {count} {name}");
+        }
+    }
+}
+
+/// How often an answer is to occur among so many samples.
+pub fn least(count: u64) -> u64 {
+    OFTEN.in_a_run_of(count)
+}
+
 pub struct Comparison {
     subject: &'static Subject,
     seed: u64,
-    count: u64,
     tally: Tally,
     differences: u64,
 }
 
 impl Comparison {
-    pub fn new(subject: &'static Subject, seed: u64, count: u64) -> Self {
+    pub fn new(subject: &'static Subject, seed: u64) -> Self {
         Comparison {
             subject,
             seed,
-            count,
             tally: Tally::new(subject.answers),
             differences: 0,
         }
     }
 
-    /// Compares so many samples, and hands each on to the second program's checks on itself.
-    pub fn run(&mut self, mut sample: impl FnMut() -> Vec<u8>, mut check: impl FnMut(&[u8])) {
-        let (name, count) = (self.subject.name, self.count);
-        println!("seed {}, {count} {name}", self.seed);
-        for done in 1..=count {
-            let bytes = sample();
-            self.compare(done, &bytes);
-            check(&bytes);
-            if done % PROGRESS_STEP == 0 {
-                eprintln!("compared {done} of {count} {name}");
-            }
-        }
-    }
-
     /// Prints the table and counts a check for each answer.
-    pub fn report(&self, report: &mut Report) {
+    pub fn report(&self, least: u64, report: &mut Report) {
+        println!("{}", self.subject.call);
         self.tally.print();
-        self.tally.report(OFTEN.in_a_run_of(self.count), report);
+        self.tally.report(least, report);
     }
 
     fn compare(&mut self, index: u64, bytes: &[u8]) {
@@ -87,12 +100,13 @@ impl Comparison {
         let program = std::env::args().next().unwrap_or_default();
         let Subject {
             name,
+            call,
             command,
             command_of_one,
             ..
         } = self.subject;
         let (seed, bytes) = (self.seed, hex::encode(bytes));
-        println!("difference at number {index} of the {name}");
+        println!("difference at number {index} of the {name}, {call}");
         println!("  bytes:    {bytes}");
         print_answers(archive, own);
         println!("  this one: {program} {command_of_one} {bytes}");

@@ -9,7 +9,8 @@ use crate::codec::fields::{Fields, Visit, Visitor};
 use crate::codec::{self, Line};
 use crate::generate::codec_cases;
 use crate::generate::codec_lines::CodecLines;
-use crate::pdu::read::read;
+use crate::numbers::Refusal;
+use crate::pdu::read::{read, read_archive};
 use crate::pdu::Pdu;
 use std::path::Path;
 use std::process::ExitCode;
@@ -26,18 +27,37 @@ const PROGRESS_STEP: u64 = 20;
 /// So many differing runs are cut down and shown; the table counts all differences.
 const FAILURES_SHOWN: u32 = 3;
 
-/// Refusals of reading; what is taken; the answers to each form that is to be written, in the
-/// order of document 01; and lines that cannot be read.
+/// Refusals of reading; what is taken; the same of archive reading, which never answers 50; the
+/// answers to each form that is to be written, in the order of document 01; and lines that cannot be
+/// read.
 const ANSWERS: &[(&str, &[&str])] = &[
     (
         "read",
+        &[
+            "1", "2", "3", "4", "5", "6", "7", "9", "10", "11", "12", "8", "131", "132", "133",
+            "134", "135", "136", "137", "138", "50", "14", "15",
+        ],
+    ),
+    (
+        "taken",
+        &[
+            "transmitter",
+            "signal 0",
+            "signal 1",
+            "signal 2",
+            "signal 6",
+            "signal 7",
+        ],
+    ),
+    (
+        "archive",
         &[
             "1", "2", "3", "4", "5", "6", "7", "9", "10", "11", "12", "8", "131", "132", "133",
             "134", "135", "136", "137", "138", "14", "15",
         ],
     ),
     (
-        "taken",
+        "archived",
         &[
             "transmitter",
             "signal 0",
@@ -54,8 +74,8 @@ const ANSWERS: &[(&str, &[&str])] = &[
     (
         "signal",
         &[
-            "2", "10", "131", "132", "133", "134", "135", "136", "137", "138", "14", "15", "16",
-            "written",
+            "2", "10", "131", "132", "133", "134", "135", "136", "137", "138", "50", "14", "15",
+            "16", "written",
         ],
     ),
     ("line", &["bad"]),
@@ -69,18 +89,28 @@ fn name(line: &str, answer: &str) -> Name {
         .nth(1);
     let written = refusal.unwrap_or("written").to_string();
     let (about, answer) = match Line::parse(line) {
-        Some(Line::Read(datagram)) => match read(&datagram) {
-            Ok(Pdu::Transmitter(_)) => ("taken", "transmitter".to_string()),
-            Ok(Pdu::Signal(record, _)) => {
-                ("taken", format!("signal {}", record.network.message_type))
-            }
-            Err(refusal) => ("read", refusal.number().to_string()),
-        },
+        Some(Line::Read(datagram)) => name_of_reading(read(&datagram), "taken", "read"),
+        Some(Line::Archive(datagram)) => {
+            name_of_reading(read_archive(&datagram), "archived", "archive")
+        }
         Some(Line::WriteTransmitter(..)) => ("transmitter", written),
         Some(Line::WriteSignal(..)) => ("signal", written),
         None => ("line", "bad".to_string()),
     };
     (about.to_string(), answer)
+}
+
+/// What a reading is about where it takes the datagram, or refuses it; and its answer.
+fn name_of_reading(
+    answer: Result<Pdu, Refusal>,
+    taken: &'static str,
+    refused: &'static str,
+) -> (&'static str, String) {
+    match answer {
+        Ok(Pdu::Transmitter(_)) => (taken, "transmitter".to_string()),
+        Ok(Pdu::Signal(record, _)) => (taken, format!("signal {}", record.network.message_type)),
+        Err(refusal) => (refused, refusal.number().to_string()),
+    }
 }
 
 /// What the two programs print for an input.
@@ -237,7 +267,7 @@ struct Extremes {
 impl Extremes {
     fn add(&mut self, line: &Line) {
         match line {
-            Line::Read(_) => {}
+            Line::Read(_) | Line::Archive(_) => {}
             Line::WriteTransmitter(record, _) => self.transmitter.add(*record),
             Line::WriteSignal(record, ..) => self.signal.add(*record),
         }

@@ -1,6 +1,8 @@
-//! Compares the archive's answers to datagrams with those of the second program's own reader.
+//! Compares the archive's answers to datagrams with those of the second program's own reader, live and
+//! of old captures.
 
-use super::answers::{Comparison, Subject};
+use super::answers::{self, Comparison, Subject};
+use super::archive_reading::{ArchiveReading, ARCHIVE_READING};
 use super::self_check::SelfChecks;
 use crate::archive;
 use crate::check::Report;
@@ -10,31 +12,40 @@ use std::process::ExitCode;
 
 pub const DEFAULT_COUNT: u64 = 1_000_000;
 
-/// Each kind's answers stand in the order of document 01, "The numbers"; refusals 1 to 3 come
-/// before the kind of PDU is known. Signals of types 1 and 2 are told apart where the body's rules
+/// The answers of both readings, in the order of document 01, "The numbers"; refusals 1 to 3 come
+/// before the kind of PDU is known. Signals of types 1 to 5 are told apart where rules of their own
 /// decide.
+pub const DATAGRAM: &[u32] = &[1, 2, 3];
+pub const TRANSMITTER: &[u32] = &[4, 5, 6, 7, 8, 9, 0];
+pub const SIGNAL: &[u32] = &[
+    4, 10, 11, 12, 8, 131, 132, 133, 134, 135, 136, 137, 138, 14, 15, 0,
+];
+pub const TIMING: &[u32] = &[14, 0];
+/// Live reading of voice.
+const RETIRED: &[u32] = &[50];
+
 pub const DATAGRAMS: Subject = Subject {
     name: "datagrams",
+    call: "altuvrin_datagram",
     own: read::answer,
     archive: archive::datagram,
     answers: &[
-        ("Datagram", &[1, 2, 3]),
-        ("Transmitter", &[4, 5, 6, 7, 8, 9, 0]),
-        (
-            "Signal",
-            &[
-                4, 10, 11, 12, 8, 131, 132, 133, 134, 135, 136, 137, 138, 14, 15, 0,
-            ],
-        ),
-        ("Type 1", &[14, 0]),
-        ("Type 2", &[14, 0]),
+        ("Datagram", DATAGRAM),
+        ("Transmitter", TRANSMITTER),
+        ("Signal", SIGNAL),
+        ("Type 1", TIMING),
+        ("Type 2", TIMING),
+        ("Type 3", RETIRED),
+        ("Type 4", RETIRED),
+        ("Type 5", RETIRED),
     ],
     about,
     command: "compare",
     command_of_one: "one",
 };
 
-fn about(datagram: &[u8], number: u32) -> String {
+/// What an answer of this number to a datagram is about.
+pub fn about(datagram: &[u8], number: u32) -> String {
     let transmitter = Some(u64::from(pdu::TRANSMITTER_TYPE));
     if (1..=3).contains(&number) {
         "Datagram".to_string()
@@ -47,7 +58,7 @@ fn about(datagram: &[u8], number: u32) -> String {
 
 fn about_signal(signal: &[u8], number: u32) -> String {
     match layout::MESSAGE_TYPE.get(signal) {
-        Some(message_type) if layout::is_timing(signal) && [0, 14, 15].contains(&number) => {
+        Some(message_type @ 1..=5) if [0, 50, 14, 15].contains(&number) => {
             format!("Type {message_type}")
         }
         _ => "Signal".to_string(),
@@ -58,13 +69,25 @@ fn about_signal(signal: &[u8], number: u32) -> String {
 pub fn run(seed: u64, count: u64) -> ExitCode {
     let mut generator = Generator::new(seed);
     let mut self_checks = SelfChecks::new();
-    let mut comparison = Comparison::new(&DATAGRAMS, seed, count);
+    let mut archive_reading = ArchiveReading::new();
+    let mut comparisons =
+        [&DATAGRAMS, &ARCHIVE_READING].map(|subject| Comparison::new(subject, seed));
     let mut report = Report::default();
-    comparison.run(
+    answers::run(
+        &mut comparisons,
+        DATAGRAMS.name,
+        (seed, count),
         || generator.datagram(),
-        |datagram| self_checks.datagram(datagram),
+        |datagram| {
+            archive_reading.datagram(datagram);
+            self_checks.datagram(datagram);
+        },
     );
-    comparison.report(&mut report);
+    let least = answers::least(count);
+    for comparison in &comparisons {
+        comparison.report(least, &mut report);
+    }
+    archive_reading.report(least, &mut report);
     self_checks.finish(&mut generator, &mut report);
     report.finish()
 }

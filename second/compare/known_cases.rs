@@ -4,6 +4,7 @@
 
 use super::self_check::MARK;
 use super::timing_cases;
+use super::voice_cases;
 use crate::check::{Claim, Report};
 use crate::numbers::{self, Refusal};
 use crate::pdu::{Modulation, COARSE, TRANSMITTER_SIZE};
@@ -40,7 +41,8 @@ pub fn run(report: &mut Report) {
         ("eight unacknowledged, replies and sends", window),
         ("the last number", last_number),
     ];
-    for (what, case) in cases.into_iter().chain(timing_cases::CASES) {
+    let later = timing_cases::CASES.into_iter().chain(voice_cases::CASES);
+    for (what, case) in cases.into_iter().chain(later) {
         let mut trial = Trial::new(what);
         case(&mut trial);
         report.count_own(&trial.claim);
@@ -276,7 +278,7 @@ impl Ends {
         }
     }
 
-    fn offer(&mut self) -> Result<u32, Refusal> {
+    pub fn offer(&mut self) -> Result<u32, Refusal> {
         let datagram = transmitter(1, FINE_MODULATION);
         self.near.offer(&mut self.store, &datagram)
     }
@@ -287,7 +289,7 @@ impl Ends {
         Ok(output)
     }
 
-    fn arrive(&mut self, record: &[u8]) -> Result<Arrival, Refusal> {
+    pub fn arrive(&mut self, record: &[u8]) -> Result<Arrival, Refusal> {
         self.far.arrive(record, &mut self.output, &mut self.reply)
     }
 }

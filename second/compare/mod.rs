@@ -2,6 +2,7 @@
 //! on itself.
 
 mod answers;
+pub mod archive_reading;
 pub mod codec;
 pub mod datagrams;
 mod demand3;
@@ -19,6 +20,8 @@ mod self_check;
 mod shrink;
 mod tally;
 mod timing_cases;
+mod voice_cases;
+mod voice_check;
 mod writer_check;
 
 pub use answers::compare_one;

@@ -1,5 +1,6 @@
 //! What offers of Signals of message types 1 to 7 gave, which the printed lines alone do not tell:
-//! types 1 and 2 are carried and have a body size of their own, types 3 to 7 are not carried.
+//! types 1 and 2 are carried and have a body size of their own, types 3 to 5 are retired, types 6 and
+//! 7 are not carried.
 
 use super::tally::{Name, Tally};
 use crate::check::Report;
@@ -9,9 +10,9 @@ use crate::trunk::script::{self, Line, Outcome};
 const ANSWERS: [(&str, &[&str]); 7] = [
     ("type 1", &["14", "taken"]),
     ("type 2", &["14", "taken"]),
-    ("type 3", &["23"]),
-    ("type 4", &["23"]),
-    ("type 5", &["23"]),
+    ("type 3", &["50"]),
+    ("type 4", &["50"]),
+    ("type 5", &["50"]),
     ("type 6", &["23"]),
     ("type 7", &["23"]),
 ];
@@ -47,7 +48,7 @@ fn name((line, printed): (&Line, &str)) -> Option<Name> {
     let is_signal = layout::PDU_TYPE.get(datagram) == Some(u64::from(SIGNAL_TYPE));
     let answer = match Outcome::parse(printed)? {
         Outcome::Offered(_) => "taken".to_string(),
-        Outcome::Refused(_, number @ (14 | 23)) => number.to_string(),
+        Outcome::Refused(_, number @ (14 | 23 | 50)) => number.to_string(),
         _ => return None,
     };
     let name = (format!("type {message_type}"), answer);

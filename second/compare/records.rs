@@ -1,6 +1,6 @@
 //! Compares the archive's check of a trunk record with the second program's own.
 
-use super::answers::{Comparison, Subject};
+use super::answers::{self, Comparison, Subject};
 use super::self_check::MARK;
 use crate::archive;
 use crate::check::{Claim, Report};
@@ -16,6 +16,7 @@ pub const DEFAULT_COUNT: u64 = 500_000;
 /// before the kind is known. Signals that are taken count by their kinds.
 pub const RECORDS: Subject = Subject {
     name: "records",
+    call: "altuvrin_record",
     own: record::answer,
     archive: archive::record,
     answers: &[
@@ -64,13 +65,16 @@ fn about(bytes: &[u8], number: u32) -> String {
 pub fn run(seed: u64, count: u64) -> ExitCode {
     let mut generator = RecordGenerator::new(seed);
     let mut written_again = Claim::new("a record that is taken is written as it was read");
-    let mut comparison = Comparison::new(&RECORDS, seed, count);
+    let mut comparison = Comparison::new(&RECORDS, seed);
     let mut report = Report::default();
-    comparison.run(
+    answers::run(
+        std::slice::from_mut(&mut comparison),
+        RECORDS.name,
+        (seed, count),
         || generator.record(),
         |bytes| check_written_again(bytes, &mut written_again),
     );
-    comparison.report(&mut report);
+    comparison.report(answers::least(count), &mut report);
     report.count_own(&written_again);
     report.count_own(&sizes());
     report.finish()

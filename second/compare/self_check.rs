@@ -1,12 +1,13 @@
 //! Checks of the second program on itself: its reader, its writer and the written form agree.
 
+use super::voice_check::VoiceChecks;
 use super::writer_check;
 use crate::check::{Claim, Report};
 use crate::generate::datagrams::Generator;
 use crate::hex;
 use crate::numbers::Refusal;
 use crate::pdu::layout::{self, Field};
-use crate::pdu::read::read;
+use crate::pdu::read::{read, read_archive};
 use crate::pdu::write::write;
 use crate::pdu::{self, Header, Modulation, NetworkHeader, Pdu, Signal, Transmitter};
 
@@ -14,7 +15,7 @@ use crate::pdu::{self, Header, Modulation, NetworkHeader, Pdu, Signal, Transmitt
 pub const MARK: u8 = 0xA5;
 const SPARE: usize = 8;
 
-/// Claims about every datagram that is taken.
+/// Claims about every datagram that is taken, and about archive reading of every datagram.
 pub struct SelfChecks {
     /// So many bodies had padding inside that was not zero.
     padded_bodies: u64,
@@ -23,6 +24,7 @@ pub struct SelfChecks {
     own_form: Claim,
     only_named: Claim,
     short_output: Claim,
+    voice: VoiceChecks,
 }
 
 impl SelfChecks {
@@ -34,11 +36,13 @@ impl SelfChecks {
             own_form: Claim::new("the written form is its own written form"),
             only_named: Claim::new("a write changes only the bytes of the PDU"),
             short_output: Claim::new("an output too short is refused and left alone"),
+            voice: VoiceChecks::new(),
         }
     }
 
-    /// Tries the claims on one datagram; one that is refused has no part in them.
+    /// Tries the claims on one datagram; one that is refused has no part in most of them.
     pub fn datagram(&mut self, datagram: &[u8]) {
+        self.voice.datagram(datagram);
         let Ok(pdu) = read(datagram) else {
             return;
         };
@@ -91,6 +95,10 @@ impl SelfChecks {
         for message_type in [1, 2] {
             check_known_timing(message_type, report);
         }
+        for message_type in [3, 4, 5] {
+            check_known_voice(message_type, report);
+        }
+        self.voice.finish(report);
         writer_check::run(generator, report);
     }
 }
@@ -239,7 +247,22 @@ fn check_known_timing(message_type: u8, report: &mut Report) {
     });
     let form = layout::written_form(&datagram);
     claim.sample(form[BODY.start..] == WRITTEN, || hex::encode(&form));
-    report.count(&claim);
+    report.count_own(&claim);
+}
+
+/// The known Signal as voice: archive reading alone takes it.
+fn check_known_voice(message_type: u8, report: &mut Report) {
+    let (mut datagram, mut signal) = known_signal();
+    layout::MESSAGE_TYPE.put(&mut datagram, message_type.into());
+    signal.network.message_type = message_type;
+    let pdu = Pdu::Signal(signal, &datagram[KNOWN_BODY_START..KNOWN_BODY_END]);
+    let mut claim = Claim::new(format!(
+        "a known Signal of type {message_type}, by both readings"
+    ));
+    let (live, archived) = (read(&datagram), read_archive(&datagram));
+    claim.sample(live == Err(Refusal::Retired), || format!("{live:?}"));
+    claim.sample(archived == Ok(pdu), || format!("{archived:?}"));
+    report.count_own(&claim);
 }
 
 const KNOWN_SIGNAL: Signal = Signal {

@@ -1,5 +1,5 @@
 //! Checks that the second program's writer refuses with the right number and leaves the output
-//! as it was (document 01, "The numbers", the order of writing; 14 with document 02, R-1).
+//! as it was (document 01, "The numbers", the order of writing; document 02, R-1 and R-4).
 
 use super::self_check::MARK;
 use crate::check::{Claim, Report};
@@ -47,7 +47,7 @@ const TRANSMITTER_BREAKERS: [Breaker<Transmitter>; 10] = [
 ];
 
 /// In the order of refusals.
-const SIGNAL_BREAKERS: [Breaker<Signal>; 24] = [
+const SIGNAL_BREAKERS: [Breaker<Signal>; 27] = [
     (2, |d| d.record.header.version = VERSIONS[0] - 1),
     (2, |d| d.record.header.version = VERSIONS[1] + 1),
     (10, |d| d.record.encoding = LAST_ENCODING + 1),
@@ -67,6 +67,9 @@ const SIGNAL_BREAKERS: [Breaker<Signal>; 24] = [
     (138, |d| {
         set_slot(d, LAST_EPOCH, LAST_SLOT_OF_LAST_EPOCH + 1)
     }),
+    (50, |d| d.record.network.message_type = 3),
+    (50, |d| d.record.network.message_type = 4),
+    (50, |d| d.record.network.message_type = 5),
     (14, |d| set_body(d, 0, WORDS_HEADER_SIZE - 1)),
     (14, |d| set_body(d, 0, WORDS_SIZE_MAX + WORD_SIZE + 1)),
     (14, |d| set_body(d, RTT, 0)),

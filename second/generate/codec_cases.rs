@@ -6,9 +6,9 @@ use crate::pdu::{Signal, Transmitter};
 use crate::trunk::script::BYTES_MAX;
 
 /// Words of which each is unreadable as a number, as bytes or as both.
-const WORDS: [&str; 24] = [
+const WORDS: [&str; 25] = [
     "", "-", "--", "-1", "+1", "0", "000", "1x", "x1", "1.0", "1e3", "0x1", "0x00", "0A", "0g",
-    "-00", "00-", "00\t", "00\r", "é", "Read", "writes", "signals", "4097",
+    "-00", "00-", "00\t", "00\r", "é", "Read", "archives", "writes", "signals", "4097",
 ];
 /// What stands before a line that cannot be read, and after it.
 const BEFORE: &str = "read -\n";
@@ -18,6 +18,7 @@ const AFTER: &str = "\nread 00\n";
 pub fn inputs() -> Vec<String> {
     let lines = [
         Line::Read(vec![0]),
+        Line::Archive(vec![0]),
         Line::WriteTransmitter(Transmitter::default(), 0),
         Line::WriteSignal(Signal::default(), vec![0; 6], 0),
     ]
@@ -28,13 +29,15 @@ pub fn inputs() -> Vec<String> {
         " ".to_string(),
         of_length(LINE_MAX + 1),
         Line::Read(too_many.clone()).to_string(),
+        Line::Archive(too_many.clone()).to_string(),
         Line::WriteSignal(Signal::default(), too_many, 0).to_string(),
     ];
     for line in &lines {
         bad.extend(mutilated(line));
     }
-    bad.extend(past_limits(&lines[1], &limits(Transmitter::default())));
-    bad.extend(past_limits(&lines[2], &limits(Signal::default())));
+    let [.., transmitter, signal] = &lines;
+    bad.extend(past_limits(transmitter, &limits(Transmitter::default())));
+    bad.extend(past_limits(signal, &limits(Signal::default())));
     let framed = bad.into_iter().map(|line| format!("{BEFORE}{line}{AFTER}"));
     let mut inputs = vec![String::new(), lines.join("\n"), at_limits()];
     inputs.extend(framed);
@@ -87,6 +90,7 @@ fn at_limits() -> String {
     let most = vec![0; BYTES_MAX];
     let lines = [
         Line::Read(most.clone()),
+        Line::Archive(most.clone()),
         Line::WriteTransmitter(transmitter, BYTES_MAX),
         Line::WriteSignal(signal, most, BYTES_MAX),
     ];

@@ -1,10 +1,10 @@
-//! Lines for the codec program: datagrams to read, records to write with good and bad fields, and
-//! what was written to read back.
+//! Lines for the codec program: datagrams to read live and as old captures, records to write with
+//! good and bad fields, and what was written to read back.
 
 use super::datagrams::Generator;
 use crate::codec::fields::{Fields, Visit, Visitor};
 use crate::codec::Line;
-use crate::pdu::read::read;
+use crate::pdu::read::read_archive;
 use crate::pdu::write::write;
 use crate::pdu::*;
 use crate::random::Random;
@@ -33,11 +33,12 @@ impl CodecLines {
         }
     }
 
-    /// A datagram of any sort; one that is taken is written from what was read.
+    /// A datagram of any sort, by both readings; one that archive reading takes is written from what
+    /// was read, which is refused where it is voice.
     fn read_and_write(&mut self) -> Vec<Line> {
         let mut datagram = self.datagrams.datagram();
         datagram.truncate(BYTES_MAX);
-        let written = match read(&datagram) {
+        let written = match read_archive(&datagram) {
             Ok(Pdu::Transmitter(record)) => {
                 let room = self.room(TRANSMITTER_SIZE);
                 Some(Line::WriteTransmitter(record, room))
@@ -48,17 +49,15 @@ impl CodecLines {
             }
             Err(_) => None,
         };
-        [Some(Line::Read(datagram)), written]
-            .into_iter()
-            .flatten()
-            .collect()
+        let readings = [Line::Read(datagram.clone()), Line::Archive(datagram)];
+        readings.into_iter().chain(written).collect()
     }
 
     /// A Transmitter whose fields without a rule are often 0 or the largest of their type, in half
     /// of the lines with one field damaged; what is written is read back.
     fn write_transmitter(&mut self) -> Vec<Line> {
         let datagram = self.datagrams.transmitter();
-        let Ok(Pdu::Transmitter(drawn)) = read(&datagram) else {
+        let Ok(Pdu::Transmitter(drawn)) = read_archive(&datagram) else {
             return Vec::new();
         };
         let mut record = drawn;
@@ -75,10 +74,10 @@ impl CodecLines {
         with_read_back(line, &Pdu::Transmitter(record), room)
     }
 
-    /// The same of a Signal, with its own body or another one.
+    /// The same of a Signal, which may be voice, with its own body or another one.
     fn write_signal(&mut self) -> Vec<Line> {
-        let datagram = self.datagrams.signal();
-        let Ok(Pdu::Signal(drawn, body)) = read(&datagram) else {
+        let datagram = self.datagrams.signal_or_voice();
+        let Ok(Pdu::Signal(drawn, body)) = read_archive(&datagram) else {
             return Vec::new();
         };
         let mut record = drawn;

@@ -1,4 +1,4 @@
-//! Datagrams for the comparison: valid ones, damaged ones and noise, chosen so that every answer
+//! Datagrams for the comparison: valid ones, voice, damaged ones and noise, chosen so that every answer
 //! of the reader occurs often, and most often close to where a rule changes its mind.
 
 use crate::pdu;
@@ -92,7 +92,13 @@ fn signal_fields() -> Vec<Ruled> {
         ruled(layout::NET, &[(0, pdu::LAST_NET)]),
         ruled(layout::TSEC, &security),
         ruled(layout::MSEC, &security),
-        ruled(layout::MESSAGE_TYPE, &[(0, pdu::LAST_MESSAGE_TYPE)]),
+        ruled(
+            layout::MESSAGE_TYPE,
+            &[
+                (0, pdu::VOICE.start() - 1),
+                (pdu::VOICE.end() + 1, pdu::LAST_MESSAGE_TYPE),
+            ],
+        ),
         ruled(layout::EPOCH, &[(0, pdu::LAST_EPOCH)]),
         // The last slot of all by itself, so that damage often makes it one that is too late.
         single(
@@ -133,7 +139,7 @@ impl Generator {
     /// A datagram of any sort.
     pub fn datagram(&mut self) -> Vec<u8> {
         match self.random.below(16) {
-            0..=2 => self.valid(),
+            0..=2 => self.archived(),
             3..=8 => self.damaged(),
             9..=10 => self.resized(),
             11..=13 => self.signal_of_any_body(),
@@ -142,11 +148,12 @@ impl Generator {
         }
     }
 
-    fn valid(&mut self) -> Vec<u8> {
+    /// A PDU that archive reading takes.
+    fn archived(&mut self) -> Vec<u8> {
         if self.random.one_in(2) {
             self.transmitter()
         } else {
-            self.signal()
+            self.signal_or_voice()
         }
     }
 
@@ -163,7 +170,17 @@ impl Generator {
 
     /// A valid Signal, its padding and fill random.
     pub fn signal(&mut self) -> Vec<u8> {
+        let message_type = self.live_message_type();
+        self.signal_of_type(message_type)
+    }
+
+    /// A Signal that archive reading takes.
+    pub fn signal_or_voice(&mut self) -> Vec<u8> {
         let message_type = self.message_type();
+        self.signal_of_type(message_type)
+    }
+
+    fn signal_of_type(&mut self, message_type: u8) -> Vec<u8> {
         let body = self.body_size(message_type);
         self.signal_of(message_type.into(), body)
     }
@@ -192,7 +209,7 @@ impl Generator {
         self.signal_of(message_type.into(), pdu::TIMING_SIZE as u64)
     }
 
-    /// A valid Signal of this size, if one is found; of any message type, 1 and 2 more often.
+    /// A Signal of this size that archive reading takes, if one is found; types 1 and 2 more often.
     pub fn signal_of_size(&mut self, size: usize) -> Option<Vec<u8>> {
         let any = self.random.within(0, pdu::LAST_MESSAGE_TYPE.into()) as u8;
         let message_type = self.random.pick(&[pdu::RTT, pdu::RTT_REPLY, any, any]);
@@ -206,7 +223,14 @@ impl Generator {
         Some(signal).filter(|signal| signal.len() == size)
     }
 
-    /// Type 0 as often as the others together.
+    /// Any message type but voice.
+    fn live_message_type(&mut self) -> u8 {
+        let mut types = std::iter::repeat_with(|| self.message_type());
+        let live = types.find(|message_type| !pdu::VOICE.contains(message_type));
+        live.expect("endless")
+    }
+
+    /// Any message type, 0 as often as the others together.
     fn message_type(&mut self) -> u8 {
         if self.random.one_in(2) {
             0
@@ -215,7 +239,7 @@ impl Generator {
         }
     }
 
-    /// A Signal that is valid but for the size of its body.
+    /// A Signal that archive reading takes but for the size of its body.
     fn signal_of_any_body(&mut self) -> Vec<u8> {
         let message_type = self.message_type();
         let body = match self.random.below(16) {
@@ -270,9 +294,9 @@ impl Generator {
         bytes
     }
 
-    /// A valid PDU with one field damaged, or with several.
+    /// A PDU with one field damaged, or with several.
     fn damaged(&mut self) -> Vec<u8> {
-        let mut bytes = self.valid();
+        let mut bytes = self.archived();
         for _ in 0..self.random.pick(&[1, 1, 2, 3]) {
             self.damage(&mut bytes);
         }
@@ -304,7 +328,7 @@ impl Generator {
 
     /// A PDU cut or lengthened; the length fields follow or not, and a field may be damaged too.
     fn resized(&mut self) -> Vec<u8> {
-        let mut bytes = self.valid();
+        let mut bytes = self.archived();
         let length = self.other_length(bytes.len());
         let tail = self.random.bytes(length.saturating_sub(bytes.len()));
         bytes.truncate(length);

@@ -52,7 +52,7 @@ impl Traffic {
     pub fn datagram(&mut self) -> Vec<u8> {
         match self.random.below(16) {
             0 | 1 => self.datagrams.datagram(),
-            2 => self.datagrams.signal(),
+            2 => self.datagrams.signal_or_voice(),
             _ => self.pdu(),
         }
     }

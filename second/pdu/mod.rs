@@ -1,6 +1,6 @@
-//! Link 16 PDUs as document 01 has them, with round-trip timing by document 02, R-1: their records,
-//! the numbers of its rules, and the rules that reading and writing share (inlined by force as the
-//! reader is, see `read`).
+//! Link 16 PDUs as document 01 has them, with round-trip timing by document 02, R-1, and voice retired
+//! by R-4: their records, the numbers of its rules, and the rules that reading and writing share
+//! (inlined by force as the reader is, see `read`).
 
 pub mod layout;
 pub mod read;
@@ -8,6 +8,7 @@ pub mod write;
 
 use crate::bytes::Source;
 use crate::numbers::{require, Refusal};
+use std::ops::RangeInclusive;
 
 // "Bytes 0 to 19, both PDUs".
 pub const VERSIONS: [u8; 2] = [5, 6];
@@ -60,6 +61,9 @@ pub const RTT: u8 = 1;
 pub const RTT_REPLY: u8 = 2;
 pub const TIMING_SIZE: usize = 6;
 const TIMING_BITS: u32 = 35;
+
+// Document 02, R-4: the message types of voice, which archive reading alone still takes.
+pub const VOICE: RangeInclusive<u8> = 3..=5;
 
 /// Bytes 0 to 19 without type, family and length.
 #[derive(Clone, Copy, Debug, Default, PartialEq, Eq)]
@@ -244,6 +248,12 @@ pub fn check_network_header(network: &NetworkHeader) -> Result<(), Refusal> {
     require(network.slot <= LAST_SLOT, Refusal::Slot)?;
     require(network.epoch <= LAST_EPOCH, Refusal::Epoch)?;
     require(!is_late, Refusal::LateSlot)
+}
+
+/// Refusal 50 (document 02, R-4).
+#[inline(always)]
+pub fn check_retired(message_type: u8) -> Result<(), Refusal> {
+    require(!VOICE.contains(&message_type), Refusal::Retired)
 }
 
 /// Refusals 14 and 15.

@@ -1,5 +1,5 @@
-//! The reader, from document 01, with document 02, R-1. Fields are taken in the order of their bytes, refusals are given
-//! in the order of "The numbers".
+//! The reader, from document 01, with document 02, R-1 and R-4. Fields are taken in the order of their
+//! bytes, refusals are given in the order of "The numbers".
 //!
 //! Its functions are inlined by force: where the answer alone is asked for, no record is built,
 //! and the bench holds the archive against that.
@@ -35,6 +35,18 @@ pub fn answer(datagram: &[u8]) -> Answer {
     Answer::of(read(datagram).map(|pdu| pdu.size()))
 }
 
+/// The same of archive reading.
+pub fn archive_answer(datagram: &[u8]) -> Answer {
+    Answer::of(read_archive(datagram).map(|pdu| pdu.size()))
+}
+
+/// Archive reading has every rule of live reading but refusal 50 (document 02, R-4).
+#[derive(Clone, Copy, PartialEq, Eq)]
+enum Rules {
+    Live,
+    Archive,
+}
+
 /// Bytes 0 to 11; the family is tested and not kept.
 struct Start {
     version: u8,
@@ -47,15 +59,25 @@ struct Start {
 /// Reads a datagram that is exactly one PDU.
 #[inline(always)]
 pub fn read(datagram: &[u8]) -> Result<Pdu<'_>, Refusal> {
+    read_by(Rules::Live, datagram)
+}
+
+/// Reads a datagram of an old capture, voice included.
+pub fn read_archive(datagram: &[u8]) -> Result<Pdu<'_>, Refusal> {
+    read_by(Rules::Archive, datagram)
+}
+
+#[inline(always)]
+fn read_by(rules: Rules, datagram: &[u8]) -> Result<Pdu<'_>, Refusal> {
     let start = read_start(datagram)?;
     match start.pdu_type {
         TRANSMITTER_TYPE => read_transmitter(&start, datagram).map(Pdu::Transmitter),
-        SIGNAL_TYPE => read_signal(&start, datagram),
+        SIGNAL_TYPE => read_signal(rules, &start, datagram),
         _ => Err(Refusal::TypeOrFamily),
     }
 }
 
-/// Refusals 1, 2 and 3; of 3 the family alone, `read` tells the types apart.
+/// Refusals 1, 2 and 3; of 3 the family alone, `read_by` tells the types apart.
 #[inline(always)]
 fn read_start(datagram: &[u8]) -> Result<Start, Refusal> {
     let bytes: &[u8; START_SIZE] = datagram.first_chunk().ok_or(Refusal::Short)?;
@@ -175,9 +197,9 @@ fn read_modulation(bytes: &[u8]) -> Modulation {
     }
 }
 
-/// Refusals 4, 10, 11, 12, 8, 131 to 138, 14 and 15.
+/// Refusals 4, 10, 11, 12, 8, 131 to 138, 50 (not in archive reading), 14 and 15.
 #[inline(always)]
-fn read_signal<'a>(start: &Start, datagram: &'a [u8]) -> Result<Pdu<'a>, Refusal> {
+fn read_signal<'a>(rules: Rules, start: &Start, datagram: &'a [u8]) -> Result<Pdu<'a>, Refusal> {
     let (fixed, rest) = fixed_part::<SIGNAL_FIXED_SIZE>(start.length, datagram)?;
     let mut source = Source::new(fixed);
     let header = read_header(start, &mut source);
@@ -197,6 +219,9 @@ fn read_signal<'a>(start: &Start, datagram: &'a [u8]) -> Result<Pdu<'a>, Refusal
         network: read_network_header(network),
     };
     check_network_header(&signal.network)?;
+    if rules == Rules::Live {
+        check_retired(signal.network.message_type)?;
+    }
     check_body(signal.network.message_type, body.len())?;
     Ok(Pdu::Signal(signal, body))
 }

@@ -1,4 +1,5 @@
-//! The writer, from document 01, with document 02, R-1. Fields are put in the order of their bytes.
+//! The writer, from document 01, with document 02, R-1 and R-4. Fields are put in the order of their
+//! bytes.
 
 use super::*;
 use crate::bytes::Sink;
@@ -16,7 +17,7 @@ pub fn write(pdu: &Pdu, output: &mut [u8]) -> Result<usize, Refusal> {
     Ok(size)
 }
 
-/// Refusals 2, then 9 for a Transmitter or 10, 131 to 138, 14 and 15 for a Signal.
+/// Refusals 2, then 9 for a Transmitter or 10, 131 to 138, 50, 14 and 15 for a Signal.
 fn check_writable(pdu: &Pdu) -> Result<(), Refusal> {
     check_version(pdu.header().version)?;
     match pdu {
@@ -24,6 +25,7 @@ fn check_writable(pdu: &Pdu) -> Result<(), Refusal> {
         Pdu::Signal(signal, body) => {
             require(signal.encoding <= LAST_ENCODING, Refusal::Encoding)?;
             check_network_header(&signal.network)?;
+            check_retired(signal.network.message_type)?;
             check_body(signal.network.message_type, body.len())
         }
     }

@@ -18,8 +18,8 @@ pub struct NearEnd {
 }
 
 impl NearEnd {
-    /// Takes a PDU and answers its number: refusals 28, the reader's, 23 (message types 3 to 7), 25
-    /// and 24.
+    /// Takes a PDU and answers its number: refusals 28, the reader's (50 for message types 3 to 5), 23
+    /// (types 6 and 7), 25 and 24.
     pub fn offer(&mut self, store: &mut [u8], datagram: &[u8]) -> Result<u32, Refusal> {
         check_store(store)?;
         let pdu = read(datagram)?;

@@ -70,9 +70,9 @@ fn show_network(n: Network) {
     show::field(n.time);
 }
 
-// `read transmitter FIELDS`
+// ` transmitter FIELDS`
 fn show_transmitter(t: Transmitter) {
-    show::text(b"read transmitter");
+    show::text(b" transmitter");
     show_header(t.header);
     show_entity(t.entity);
     show_antenna(t.antenna);
@@ -81,9 +81,9 @@ fn show_transmitter(t: Transmitter) {
     show::end_line();
 }
 
-// `read signal FIELDS BODYHEX`
+// ` signal FIELDS BODYHEX`
 fn show_signal(s: Signal, body: &[u8]) {
-    show::text(b"read signal");
+    show::text(b" signal");
     show_header(s.header);
     show::field(s.encoding as u64);
     show::field(s.rate as u64);
@@ -99,13 +99,29 @@ fn body(datagram: &[u8], size: u16) -> &[u8] {
     text::part(datagram, pdu::BODY_START, end)
 }
 
-// Reads a datagram: `read refused N`, or what it holds.
-pub fn read(datagram: &[u8]) {
-    match reader::read(datagram) {
-        Reading::Refused(number) => show::refused(b"read", number),
-        Reading::Transmitter(transmitter) => show_transmitter(transmitter),
-        Reading::Signal(signal, size) => show_signal(signal, body(datagram, size)),
+// The call's word, and `refused N` or what the datagram holds.
+fn show_reading(call: &[u8], answer: Reading, datagram: &[u8]) {
+    match answer {
+        Reading::Refused(number) => show::refused(call, number),
+        Reading::Transmitter(transmitter) => {
+            show::text(call);
+            show_transmitter(transmitter);
+        }
+        Reading::Signal(signal, size) => {
+            show::text(call);
+            show_signal(signal, body(datagram, size));
+        }
     }
+}
+
+// Reads a datagram.
+pub fn read(datagram: &[u8]) {
+    show_reading(b"read", reader::read(datagram), datagram);
+}
+
+// Reads a datagram of an old capture, voice included (02, R-4).
+pub fn archive(datagram: &[u8]) {
+    show_reading(b"archive", reader::read_archive(datagram), datagram);
 }
 
 // `write refused N` or `write SIZE HEX`

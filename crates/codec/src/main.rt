@@ -16,6 +16,7 @@ use text::show;
 fn run(call: Call, given: &[u8; ROOM]) -> bool {
     match call {
         Call::Read(n) => calls::read(text::first(given, n)),
+        Call::Archive(n) => calls::archive(text::first(given, n)),
         Call::WriteTransmitter { transmitter, room } => calls::write_transmitter(transmitter, room),
         Call::WriteSignal { signal, size, room } => {
             calls::write_signal(signal, text::first(given, size), room)

@@ -9,6 +9,8 @@ use text::ROOM;
 pub enum Call {
     // `read HEX`
     Read(usize),
+    // `archive HEX`
+    Archive(usize),
     // `write transmitter FIELDS ROOM`
     WriteTransmitter {
         transmitter: Transmitter,
@@ -24,13 +26,16 @@ pub enum Call {
     Bad,
 }
 
-fn read_datagram(line: &[u8], given: &mut [u8; ROOM]) -> Call {
+// A datagram to be read live, or by archive reading.
+fn read_datagram(live: bool, line: &[u8], given: &mut [u8; ROOM]) -> Call {
     let n = text::bytes(line, given);
-    if n.good {
-        Call::Read(n.value as usize)
-    } else {
-        Call::Bad
+    if !n.good {
+        return Call::Bad;
     }
+    if live {
+        return Call::Read(n.value as usize);
+    }
+    Call::Archive(n.value as usize)
 }
 
 fn read_transmitter(line: &[u8]) -> Call {
@@ -81,7 +86,10 @@ pub fn read(line: &[u8], given: &mut [u8; ROOM]) -> Call {
     let word = text::first_word(line);
     let words = text::other_words(line);
     if check::same(word, b"read") {
-        return read_datagram(words, given);
+        return read_datagram(true, words, given);
+    }
+    if check::same(word, b"archive") {
+        return read_datagram(false, words, given);
     }
     if check::same(word, b"write") {
         return read_record(words, given);

@@ -1,7 +1,7 @@
 // The calls of the C host, on numbers and byte slices. Every export of the archive stands in this crate.
 ghost use mathlib.Core.Path.{_≡_};
 ghost use Rattle.pdu.specs.Forms.{sizeOf};
-ghost use Rattle.pdu.specs.Reading.{reading, numberOf};
+ghost use Rattle.pdu.specs.Reading.{reading, archiveReading, numberOf};
 ghost use Rattle.trunk.specs.Record.{checked, numberOfChecked, sizeOfChecked};
 ghost use Rattle.host.specs.Answer.{packed};
 
@@ -14,6 +14,18 @@ pub extern "C" fn altuvrin_datagram(bytes: &[u8]) -> u64
     ensures { λ r. ⌜ r ≡ packed (numberOf (reading (now (bytes .entry)))) (sizeOf (reading (now (bytes .entry)))) ⌝ }
 {
     let n = reader::reading_refusal(bytes);
+    if n != 0 {
+        return n as u64 * ABOVE;
+    }
+    bytes.len() as u64
+}
+
+// The same for a datagram of an old capture, in which retired messages are taken too.
+#[no_mangle]
+pub extern "C" fn altuvrin_archive(bytes: &[u8]) -> u64
+    ensures { λ r. ⌜ r ≡ packed (numberOf (archiveReading (now (bytes .entry)))) (sizeOf (archiveReading (now (bytes .entry)))) ⌝ }
+{
+    let n = reader::archive_refusal(bytes);
     if n != 0 {
         return n as u64 * ABOVE;
     }

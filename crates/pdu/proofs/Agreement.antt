@@ -2,30 +2,32 @@
 -- alike (the verdicts). The laws of rules in order do the rest.
 -- Assumes nothing.
 use Prim.Native.Nat.{ℕ, _+_, _-_, _*_, _/_, _%_, _^_, _≤_}
-use mathlib.Core.Path.{_≡_, refl, ap, subst}
+use mathlib.Core.Path.{_≡_, refl, sym, ap, subst, _∙_}
 use mathlib.Core.Logic.{_↔_, _≢_, _⊎_, inl, inr, Iff·trans}
-use mathlib.Core.Bool.{Bool, true, false, not}
-use mathlib.Core.List.{List}
+use mathlib.Core.Bool.{Bool, true, false, not, true≢false}
+use mathlib.Core.List.{List, [], _∷_, _++_}
 use lib.ListN.{length}
 use lib.Dec.{eqb, ltb}
 use borrow.Author.Tests.{eqb-true, eqb-false, eq-eqb, ne-eqb}
 use native.Mathlib.Nat.{div-one}
 use native.Mathlib.Omega.{arith}
 use Rattle.wire.specs.Bytes.{num}
-use Rattle.wire.specs.Rules.{Rule, Verdict}
+use Rattle.wire.specs.First.{_given-when_}
+use Rattle.wire.specs.Rules.{Rule, _unless_, Verdict}
 use Rattle.wire.proofs.RuleLaws.{equal, at-most, below, not-below, negated, both, one-of, neither, if-so, unless-not, either-way, all-five}
 use Rattle.wire.proofs.RuleLaws.{Agree, done, _then_, agree-append, verdict}
 use Rattle.pdu.specs.Numbers
 use Rattle.pdu.specs.Tables.{filled, signalSize}
 use Rattle.pdu.specs.Words.{wordsIn, wholeWords}
-use Rattle.pdu.specs.Rules.{wrongVersion, isPrimary, wrongSync, wrongSecurity, accessRules, slotRules, networkRules, wrongBody, bodyRules}
-use Rattle.pdu.specs.Rules.{innerRules}
+use Rattle.pdu.specs.Rules.{wrongVersion, isPrimary, wrongSync, wrongSecurity, accessRules, slotRules, networkRules, isRetired}
+use Rattle.pdu.specs.Rules.{liveRules, wrongBody, bodyRules, innerRules}
 use Rattle.pdu.specs.Reading.{transmitterOf, signalOf, bodySize, content, wrongType, wrongLength, wrongFixed, wrongBits, startRules}
-use Rattle.pdu.specs.Reading.{transmitterLayout, signalLayout, readingRules}
+use Rattle.pdu.specs.Reading.{transmitterLayout, signalLayout, readingRules, archiveRules}
 use Rattle.pdu.specs.Writing.{recordRules, writingRules}
-use Rattle.pdu.specs.Plain.{FixedRule, SyncRule, FilledTo, SecurityRule, WordsRule, TimingRule, epochOf, plainStart, plainTransmitterLayout}
-use Rattle.pdu.specs.Plain.{plainTransmitter, plainSignalLayout, plainNetwork, plainInner, plainSignal, plainTransmitterRecord}
-use Rattle.pdu.specs.Plain.{plainSignalRecord, plainTransmitterWriting, plainSignalWriting}
+use Rattle.pdu.specs.Plain.{FixedRule, SyncRule, FilledTo, SecurityRule, LiveRule, WordsRule, TimingRule, epochOf, plainStart}
+use Rattle.pdu.specs.Plain.{plainTransmitterLayout, plainTransmitter, plainSignalLayout, plainNetwork, plainBody, plainNetworkAt, plainBodyAt}
+use Rattle.pdu.specs.Plain.{plainInner, plainSignal, plainArchive, plainInnerOf, plainTransmitterRecord, plainSignalRecord}
+use Rattle.pdu.specs.Plain.{plainTransmitterWriting, plainSignalWriting}
 use Rattle.pdu.specs.declared.Sync.{Sync}
 use Rattle.pdu.specs.declared.Network.{Network}
 use Rattle.pdu.specs.declared.Transmitter.{Transmitter}
@@ -86,6 +88,26 @@ filled-says n size = negated _ (Iff·trans (equal _ _) (λ (e : size ≡ filled 
 security-says : (k : ℕ) → (wrongSecurity k ≡ false) ↔ SecurityRule k
 security-says k = negated _ (one-of _ _ (at-most _ _) (equal _ _))
 
+-- 50: what is not in the range is none of its three numbers
+retired-says : (type : ℕ) → (isRetired type ≡ false) ↔ LiveRule type
+retired-says type = (none, some (isRetired type) refl)
+  where
+    inside : (isRetired type ≡ true) ↔ ((3 ≤ type) × (type ≤ 5))
+    inside = both _ _ (at-most _ _) (at-most _ _)
+
+    none : isRetired type ≡ false → LiveRule type
+    none e = (
+      λ (q : type ≡ 3). true≢false (sym (inside .1 (omega arith, omega arith)) ∙ e),
+      λ (q : type ≡ 4). true≢false (sym (inside .1 (omega arith, omega arith)) ∙ e),
+      λ (q : type ≡ 5). true≢false (sym (inside .1 (omega arith, omega arith)) ∙ e),
+    )
+
+    some : (b : Bool) → isRetired type ≡ b → LiveRule type → isRetired type ≡ false
+    some true e (three, four, five) =
+        let (low, high) = inside .0 e in
+        absurd (omega arith)
+    some false e live = e
+
 words-say : (n : ℕ) → (not (wholeWords n) ≡ false) ↔ ((words : ℕ) × (n ≡ 6 + 10 * words))
 words-say n = negated _ (Iff·trans (equal _ _) (λ e. (wordsIn n, e), λ h. whole (h .0) (h .1)))
   where
@@ -114,14 +136,11 @@ room-says n room =
 
 -- ---- the lists
 
--- the plain rules of a network header and a body of n bytes
-abbrev pub plainOf : Network → ℕ → List Rule
-plainOf k n = plainNetwork (k .npg) (k .net) (k .tsec) (k .msec) (k .«message_type») (k .slot) (k .epoch) n
-
--- 13, 14 and 15
-pub inner-agrees : (s : Signal) (n : ℕ) → Agree (innerRules (aSignal s n)) (plainOf (s .network) n)
-unfolding innerRules networkRules accessRules slotRules bodyRules
-inner-agrees s n =
+-- 131 to 138
+network-agrees : (k : Network)
+    → Agree (networkRules k) (plainNetwork (k .npg) (k .net) (k .tsec) (k .msec) (k .«message_type») (k .slot) (k .epoch))
+unfolding networkRules accessRules slotRules
+network-agrees k =
     not-below _ _
     then λ npg. not-below _ _
     then λ net. security-says _
@@ -130,9 +149,26 @@ inner-agrees s n =
     then λ type. not-below _ _
     then λ slot. not-below _ _
     then λ epoch. if-so _ _ (equal _ _) (not-below _ _)
-    then λ last. body-says _ _
+    then λ last. done
+
+-- 14 and 15
+body-agrees : (type n : ℕ) → Agree (bodyRules type n) (plainBody type n)
+unfolding bodyRules
+body-agrees type n =
+    body-says _ _
     then λ body. either-way _ _ _ (equal _ _) (λ zero-type. few-say _ (body .0 zero-type .0) (body .0 zero-type .1)) (not-below _ _)
     then λ few. done
+
+-- 50
+live-agrees : (type : ℕ) → Agree ((50 given-when isRetired type) ∷ []) ((50 unless LiveRule type) ∷ [])
+live-agrees type = retired-says type then λ live. done
+
+-- 131 to 138, 50, 14 and 15
+inner-agrees : (s : Signal) (n : ℕ) → Agree (innerRules (aSignal s n)) (plainInnerOf (s .network) n)
+unfolding innerRules liveRules
+inner-agrees s n =
+    let k = s .network in
+    agree-append (agree-append (network-agrees k) (λ header. live-agrees (k .«message_type»))) (λ header. body-agrees _ n)
 
 -- what byte 2 says
 pub content-transmitter : (d : List ℕ) → num 1 2 d ≡ 25 → content d ≡ aTransmitter (transmitterOf d)
@@ -173,31 +209,62 @@ signal-layout-agrees d =
     then λ size. done
 
 -- the rules of a Transmitter, where byte 2 is 25
-transmitter-agrees : (d : List ℕ) → num 1 2 d ≡ 25 → Agree (readingRules d) (plainTransmitter d)
-unfolding readingRules innerRules transmitterOf
-transmitter-agrees d e =
-    rw (content-transmitter d e)
-    (agree-append (start-agrees d (num 1 2 d ≡ 25) (λ either. e, inl))
-    (λ start. agree-append (transmitter-layout-agrees d) (λ layout. sync-says _ then λ sync. done)))
+transmitter-rules : (d : List ℕ)
+    → num 1 2 d ≡ 25
+    → Agree (startRules d ++ (transmitterLayout d ++ innerRules (aTransmitter (transmitterOf d)))) (plainTransmitter d)
+unfolding innerRules transmitterOf
+transmitter-rules d e =
+    agree-append (start-agrees d (num 1 2 d ≡ 25) (λ either. e, inl))
+    (λ start. agree-append (transmitter-layout-agrees d) (λ layout. sync-says _ then λ sync. done))
 
--- 13, 14 and 15 of a datagram; the slot that the table gives has no bits below it
-network-agrees : (d : List ℕ) → Agree (innerRules (aSignal (signalOf d) (bodySize d))) (plainInner d)
+transmitter-agrees : (d : List ℕ) → num 1 2 d ≡ 25 → Agree (readingRules d) (plainTransmitter d)
+unfolding readingRules
+transmitter-agrees d e = rw (content-transmitter d e) (transmitter-rules d e)
+
+-- 131 to 138 of a datagram; the slot that the table gives has no bits below it
+network-at : (d : List ℕ) → Agree (networkRules (signalOf d .network)) (plainNetworkAt d)
 unfolding signalOf
-network-agrees d =
-    subst (λ (slot : ℕ). Agree (innerRules (aSignal (signalOf d) (bodySize d))) (with-slot slot))
+network-at d =
+    subst (λ (slot : ℕ). Agree (networkRules (signalOf d .network)) (with-slot slot))
     (ap (λ (v : ℕ). v % 2 ^ 17) (div-one (num 4 40 d)))
-    (inner-agrees (signalOf d) (bodySize d))
+    (network-agrees (signalOf d .network))
   where
     with-slot : ℕ → List Rule
-    with-slot slot = plainNetwork (num 2 32 d) (num 1 34 d) (num 1 35 d) (num 1 36 d) (num 1 37 d) slot (epochOf d) (num 2 28 d / 8 - 20)
+    with-slot slot = plainNetwork (num 2 32 d) (num 1 34 d) (num 1 35 d) (num 1 36 d) (num 1 37 d) slot (epochOf d)
+
+-- 14 and 15 of a datagram
+body-at : (d : List ℕ) → Agree (bodyRules (signalOf d .network .«message_type») (bodySize d)) (plainBodyAt d)
+unfolding signalOf
+body-at d = body-agrees _ _
+
+-- 131 to 138, 50, 14 and 15 of a datagram
+inner-at : (d : List ℕ) → Agree (innerRules (aSignal (signalOf d) (bodySize d))) (plainInner d)
+unfolding innerRules liveRules signalOf
+inner-at d = agree-append (agree-append (network-at d) (λ header. live-agrees (num 1 37 d))) (λ header. body-at d)
+
+-- where byte 2 is not 25, the types left are one
+signal-type : (d : List ℕ) → num 1 2 d ≢ 25 → ((num 1 2 d ≡ 25) ⊎ (num 1 2 d ≡ 26)) ↔ (num 1 2 d ≡ 26)
+signal-type d e = (elim [ inl t ↦ absurd (e t) | inr s ↦ s ], inr)
 
 -- the rules of a Signal, where it is not
 signal-agrees : (d : List ℕ) → num 1 2 d ≢ 25 → Agree (readingRules d) (plainSignal d)
 unfolding readingRules
 signal-agrees d e =
     rw (content-signal d e)
-    (agree-append (start-agrees d (num 1 2 d ≡ 26) (elim [ inl t ↦ absurd (e t) | inr s ↦ s ], inr))
-    (λ start. agree-append (signal-layout-agrees d) (λ layout. network-agrees d)))
+    (agree-append (start-agrees d (num 1 2 d ≡ 26) (signal-type d e))
+    (λ start. agree-append (signal-layout-agrees d) (λ layout. inner-at d)))
+
+-- archive reading: of a Transmitter nothing is left out, of a Signal 50
+transmitter-archive-agrees : (d : List ℕ) → num 1 2 d ≡ 25 → Agree (archiveRules d) (plainTransmitter d)
+unfolding archiveRules readingRules startRules transmitterLayout innerRules transmitterOf
+transmitter-archive-agrees d e = rw (content-transmitter d e) (transmitter-rules d e)
+
+signal-archive-agrees : (d : List ℕ) → num 1 2 d ≢ 25 → Agree (archiveRules d) (plainArchive d)
+unfolding archiveRules readingRules startRules signalLayout innerRules liveRules networkRules accessRules slotRules bodyRules
+signal-archive-agrees d e =
+    rw (content-signal d e)
+    (agree-append (start-agrees d (num 1 2 d ≡ 26) (signal-type d e))
+    (λ start. agree-append (signal-layout-agrees d) (λ layout. agree-append (network-at d) (λ header. body-at d))))
 
 -- ---- the verdicts
 
@@ -207,6 +274,13 @@ transmitter-verdict d e = verdict (transmitter-agrees d e)
 
 pub signal-verdict : (d : List ℕ) → num 1 2 d ≢ 25 → Verdict (readingRules d) (plainSignal d)
 signal-verdict d e = verdict (signal-agrees d e)
+
+-- archive reading alike
+pub transmitter-archive : (d : List ℕ) → num 1 2 d ≡ 25 → Verdict (archiveRules d) (plainTransmitter d)
+transmitter-archive d e = verdict (transmitter-archive-agrees d e)
+
+pub signal-archive : (d : List ℕ) → num 1 2 d ≢ 25 → Verdict (archiveRules d) (plainArchive d)
+signal-archive d e = verdict (signal-archive-agrees d e)
 
 -- and their parts
 pub start-verdict : (d : List ℕ) → Verdict (startRules d) (plainStart ((num 1 2 d ≡ 25) ⊎ (num 1 2 d ≡ 26)) d)
@@ -218,12 +292,16 @@ transmitter-layout d = verdict (transmitter-layout-agrees d)
 pub signal-layout : (d : List ℕ) → Verdict (signalLayout d) (plainSignalLayout d)
 signal-layout d = verdict (signal-layout-agrees d)
 
--- 13, 14 and 15, of a datagram and of a record
+-- 131 to 138, 50, 14 and 15, of a datagram and of a record
 pub inner-verdict : (d : List ℕ) → Verdict (innerRules (aSignal (signalOf d) (bodySize d))) (plainInner d)
-inner-verdict d = verdict (network-agrees d)
+inner-verdict d = verdict (inner-at d)
 
-pub inner-record : (s : Signal) (n : ℕ) → Verdict (innerRules (aSignal s n)) (plainOf (s .network) n)
+pub inner-record : (s : Signal) (n : ℕ) → Verdict (innerRules (aSignal s n)) (plainInnerOf (s .network) n)
 inner-record s n = verdict (inner-agrees s n)
+
+-- 14 and 15 of a datagram
+pub body-verdict : (d : List ℕ) → Verdict (bodyRules (signalOf d .network .«message_type») (bodySize d)) (plainBodyAt d)
+body-verdict d = verdict (body-at d)
 
 -- the rules of a record
 transmitter-record-agrees : (t : Transmitter) → Agree (recordRules (aTransmitter t)) (plainTransmitterRecord t)

@@ -1,6 +1,6 @@
 -- What reading answers, by the refusal number and by what the datagram holds (`reads-as`, `refuses-as`); and `taken-exactly-when`: a datagram is
 -- taken exactly where document 01's plain rules hold, its refusal is the number of the first that does not, and what is taken is what the table
--- gives. By the verdicts on the two lists of rules.
+-- gives. By the verdicts on the two lists of rules. Archive reading alike, by the same rules without 50.
 -- Assumes nothing.
 use Prim.Native.Nat.{ℕ}
 use mathlib.Core.Path.{_≡_, refl, sym, ap, ap₂, subst, _∙_}
@@ -11,19 +11,22 @@ use lib.Dec.{eqb}
 use borrow.Author.Tests.{eqb-true, eqb-false, eq-eqb, ne-eqb}
 use native.Mathlib.Omega.{arith}
 use Rattle.wire.specs.Bytes.{num}
+use Rattle.wire.specs.First.{Refusal, first}
 use Rattle.wire.specs.Rules.{Rule, Met, Verdict}
 use Rattle.pdu.specs.Numbers
 use Rattle.pdu.specs.Forms.{sizeOf}
-use Rattle.pdu.specs.Reading.{transmitterOf, signalOf, bodySize, saysTransmitter, content, refusal, reading, numberOf}
-use Rattle.pdu.specs.Reading.{valuesHeld, readingSays, readSays}
+use Rattle.pdu.specs.Reading.{transmitterOf, signalOf, bodySize, saysTransmitter, content, readingRules, refusal, answerBy, reading}
+use Rattle.pdu.specs.Reading.{numberOf, valuesHeld, readingSays, saidBy, readSays, archiveRules, archiveRefusal, archiveReading}
 use Rattle.pdu.specs.Writing.{writingRules, writingRefusal, written, writtenSays, writingSays}
-use Rattle.pdu.specs.Plain.{plainTransmitter, plainSignal, plainTransmitterWriting, plainSignalWriting, TakenExactly, WrittenExactly}
+use Rattle.pdu.specs.Plain.{plainTransmitter, plainSignal, plainArchive, plainTransmitterWriting, plainSignalWriting, TakenBy}
+use Rattle.pdu.specs.Plain.{TakenExactly, ArchivedExactly, WrittenExactly}
 use Rattle.pdu.specs.declared.Transmitter.{Transmitter}
 use Rattle.pdu.specs.declared.Signal.{Signal}
 use Rattle.pdu.specs.declared.Reading.{Reading}
 use Rattle.pdu.specs.declared.Reading.the-variants.{Refused, Transmitter as aTransmitter, Signal as aSignal}
 use Rattle.pdu.specs.declared.Written.the-variants.{Refused as NotWritten, Size}
-use Rattle.pdu.proofs.Agreement.{content-transmitter, content-signal, transmitter-verdict, signal-verdict, transmitter-writing, signal-writing}
+use Rattle.pdu.proofs.Agreement.{content-transmitter, content-signal, transmitter-verdict, signal-verdict, transmitter-archive, signal-archive}
+use Rattle.pdu.proofs.Agreement.{transmitter-writing, signal-writing}
 
 -- an answer that is no refusal
 abbrev pub Holds : Reading → Type 0
@@ -31,15 +34,7 @@ Holds (Refused n) = ⊥
 Holds (aTransmitter t) = Unit {0}
 Holds (aSignal s n) = Unit {0}
 
--- ---- what reading answers
-
-pub reading-taken : (d : List ℕ) → refusal d ≡ 0 → reading d ≡ content d
-unfolding reading
-reading-taken d e = rw (eq-eqb (refusal d) 0 e)
-
-pub reading-refused : (d : List ℕ) → refusal d ≢ 0 → reading d ≡ Refused (refusal d)
-unfolding reading
-reading-refused d e = rw (ne-eqb (refusal d) 0 e)
+-- ---- what is answered by a refusal number, of live reading and of archive reading alike
 
 -- what a datagram holds is no refusal
 pub content-holds : (d : List ℕ) → Holds (content d)
@@ -50,57 +45,93 @@ content-holds d = by (saysTransmitter d) refl
     by true t = subst Holds (sym (content-transmitter d (eqb-true _ _ t))) tt
     by false t = subst Holds (sym (content-signal d (eqb-false _ _ t))) tt
 
+pub answer-taken : (n : ℕ) (d : List ℕ) → n ≡ 0 → answerBy n d ≡ content d
+answer-taken n d e = rw (eq-eqb n 0 e)
+
+pub answer-refused : (n : ℕ) (d : List ℕ) → n ≢ 0 → answerBy n d ≡ Refused n
+answer-refused n d e = rw (ne-eqb n 0 e)
+
 -- an answer that is no refusal: the datagram is taken, and holds that
-pub reads-as : (d : List ℕ) (r : Reading) → Holds r → reading d ≡ r → (refusal d ≡ 0) × (content d ≡ r)
-reads-as d r h e = by (eqb (refusal d) 0) refl
+pub answers-as : (n : ℕ) (d : List ℕ) (r : Reading) → Holds r → answerBy n d ≡ r → (n ≡ 0) × (content d ≡ r)
+answers-as n d r h e = by (eqb n 0) refl
   where
-    by : (b : Bool) → eqb (refusal d) 0 ≡ b → (refusal d ≡ 0) × (content d ≡ r)
+    by : (b : Bool) → eqb n 0 ≡ b → (n ≡ 0) × (content d ≡ r)
     by true t =
         let none = eqb-true _ _ t in
-        (none, sym (reading-taken d none) ∙ e)
-    by false t = absurd (subst Holds (sym e ∙ reading-refused d (eqb-false _ _ t)) h)
+        (none, sym (answer-taken n d none) ∙ e)
+    by false t = absurd (subst Holds (sym e ∙ answer-refused n d (eqb-false _ _ t)) h)
 
--- a refusal: by the first rule that is broken
-pub refuses-as : (d : List ℕ) (n : ℕ) → (reading d ≡ Refused n) ↔ ((refusal d ≡ n) × (n ≢ 0))
-refuses-as d n = (to, from)
+-- a refusal: by that number
+pub answers-refused : (n : ℕ) (d : List ℕ) (m : ℕ) → (answerBy n d ≡ Refused m) ↔ ((n ≡ m) × (m ≢ 0))
+answers-refused n d m = (to, from)
   where
-    to : reading d ≡ Refused n → (refusal d ≡ n) × (n ≢ 0)
-    to e = by (eqb (refusal d) 0) refl
+    to : answerBy n d ≡ Refused m → (n ≡ m) × (m ≢ 0)
+    to e = by (eqb n 0) refl
       where
-        by : (b : Bool) → eqb (refusal d) 0 ≡ b → (refusal d ≡ n) × (n ≢ 0)
-        by true t = absurd (subst Holds (sym (reading-taken d (eqb-true _ _ t)) ∙ e) (content-holds d))
+        by : (b : Bool) → eqb n 0 ≡ b → (n ≡ m) × (m ≢ 0)
+        by true t = absurd (subst Holds (sym (answer-taken n d (eqb-true _ _ t)) ∙ e) (content-holds d))
         by false t =
             let some = eqb-false _ _ t in
-            let same : refusal d ≡ n = ap numberOf (sym (reading-refused d some) ∙ e) in
+            let same : n ≡ m = ap numberOf (sym (answer-refused n d some) ∙ e) in
             (same, λ z. some (same ∙ z))
 
-    from : (refusal d ≡ n) × (n ≢ 0) → reading d ≡ Refused n
-    from h = reading-refused d (λ z. h .1 (sym (h .0) ∙ z)) ∙ ap Refused (h .0)
+    from : (n ≡ m) × (m ≢ 0) → answerBy n d ≡ Refused m
+    from h = answer-refused n d (λ z. h .1 (sym (h .0) ∙ z)) ∙ ap Refused (h .0)
 
--- the refusal number is the answer's
-pub refusal-read : (d : List ℕ) → numberOf (reading d) ≡ refusal d
-refusal-read d = by (eqb (refusal d) 0) refl
+-- the number is the answer's
+pub answer-number : (n : ℕ) (d : List ℕ) → numberOf (answerBy n d) ≡ n
+answer-number n d = by (eqb n 0) refl
   where
     no-number : (r : Reading) → Holds r → numberOf r ≡ 0
     no-number (Refused n) h = absurd h
     no-number (aTransmitter t) h = refl
     no-number (aSignal s n) h = refl
 
-    by : (b : Bool) → eqb (refusal d) 0 ≡ b → numberOf (reading d) ≡ refusal d
+    by : (b : Bool) → eqb n 0 ≡ b → numberOf (answerBy n d) ≡ n
     by true t =
         let none = eqb-true _ _ t in
-        ap numberOf (reading-taken d none) ∙ no-number (content d) (content-holds d) ∙ sym none
-    by false t = ap numberOf (reading-refused d (eqb-false _ _ t))
+        ap numberOf (answer-taken n d none) ∙ no-number (content d) (content-holds d) ∙ sym none
+    by false t = ap numberOf (answer-refused n d (eqb-false _ _ t))
 
 -- and what the answer says is that number, or 0 and what the datagram holds
-pub reading-says : (d : List ℕ) → readingSays (reading d) ≡ readSays d
-reading-says d = by (eqb (refusal d) 0) refl
+pub answer-says : (n : ℕ) (d : List ℕ) → readingSays (answerBy n d) ≡ saidBy n d
+answer-says n d = by (eqb n 0) refl
   where
-    by : (b : Bool) → eqb (refusal d) 0 ≡ b → readingSays (reading d) ≡ readSays d
+    by : (b : Bool) → eqb n 0 ≡ b → readingSays (answerBy n d) ≡ saidBy n d
     by true t =
         let none = eqb-true _ _ t in
-        ap₂ _∷_ (refusal-read d ∙ none) (ap valuesHeld (reading-taken d none)) ∙ rw t refl
-    by false t = ap readingSays (reading-refused d (eqb-false _ _ t)) ∙ rw t refl
+        ap₂ _∷_ (answer-number n d ∙ none) (ap valuesHeld (answer-taken n d none)) ∙ rw t refl
+    by false t = ap readingSays (answer-refused n d (eqb-false _ _ t)) ∙ rw t refl
+
+-- ---- what reading answers
+
+pub reading-taken : (d : List ℕ) → refusal d ≡ 0 → reading d ≡ content d
+unfolding reading
+reading-taken d e = answer-taken (refusal d) d e
+
+pub reading-refused : (d : List ℕ) → refusal d ≢ 0 → reading d ≡ Refused (refusal d)
+unfolding reading
+reading-refused d e = answer-refused (refusal d) d e
+
+-- an answer that is no refusal: the datagram is taken, and holds that
+pub reads-as : (d : List ℕ) (r : Reading) → Holds r → reading d ≡ r → (refusal d ≡ 0) × (content d ≡ r)
+unfolding reading
+reads-as d r h e = answers-as (refusal d) d r h e
+
+-- a refusal: by the first rule that is broken
+pub refuses-as : (d : List ℕ) (n : ℕ) → (reading d ≡ Refused n) ↔ ((refusal d ≡ n) × (n ≢ 0))
+unfolding reading
+refuses-as d n = answers-refused (refusal d) d n
+
+-- the refusal number is the answer's
+pub refusal-read : (d : List ℕ) → numberOf (reading d) ≡ refusal d
+unfolding reading
+refusal-read d = answer-number (refusal d) d
+
+-- and what the answer says
+pub reading-says : (d : List ℕ) → readingSays (reading d) ≡ readSays d
+unfolding reading
+reading-says d = answer-says (refusal d) d
 
 -- ---- which of the two
 
@@ -147,28 +178,51 @@ signal-met d m =
 
 -- ---- the theorems
 
--- for every datagram, without a premise
-pub taken-exactly-when : (d : List ℕ) → TakenExactly d
-unfolding refusal
-taken-exactly-when d =
-    let transmitter : (t : Transmitter) → reading d ≡ aTransmitter t → (refusal d ≡ 0) × (content d ≡ aTransmitter t) =
-    λ t e. reads-as d (aTransmitter t) tt e in
-    let signal : (s : Signal) (n : ℕ) → reading d ≡ aSignal s n → (refusal d ≡ 0) × (content d ≡ aSignal s n) =
-    λ s n e. reads-as d (aSignal s n) tt e in
+-- an answer by the first broken rule of a list that has verdicts: on a Transmitter's plain rules where byte 2 is 25, on a Signal's elsewhere
+exactly-by : (d : List ℕ) (rules : List Refusal) (signal : List Rule)
+    → (num 1 2 d ≡ 25 → Verdict rules (plainTransmitter d))
+    → (num 1 2 d ≢ 25 → Verdict rules signal)
+    → (Met signal → num 1 2 d ≢ 25)
+    → TakenBy (answerBy (first rules) d) signal d
+exactly-by d rules signal transmitters signals other =
+    let holds-transmitter : (t : Transmitter) → answerBy (first rules) d ≡ aTransmitter t → (first rules ≡ 0) × (content d ≡ aTransmitter t) =
+    λ t e. answers-as (first rules) d (aTransmitter t) tt e in
+    let holds-signal : (s : Signal) (n : ℕ) → answerBy (first rules) d ≡ aSignal s n → (first rules ≡ 0) × (content d ≡ aSignal s n) =
+    λ s n e. answers-as (first rules) d (aSignal s n) tt e in
     record {
       transmitter-taken = (
-        (λ h. let r = transmitter (h .0) (h .1) in transmitter-verdict d (as-transmitter d (h .0) (r .1) .0) .none .0 (r .0)),
-        (λ m. let r = transmitter-met d m in (transmitterOf d, reading-taken d (r .0) ∙ r .1)),
+        (λ h. let r = holds-transmitter (h .0) (h .1) in transmitters (as-transmitter d (h .0) (r .1) .0) .none .0 (r .0)),
+        (λ m.
+            let (long, (version, ((type, family), rest))) = m in
+            (transmitterOf d, answer-taken _ d (transmitters type .none .1 m) ∙ content-transmitter d type)),
       );
       signal-taken = (
-        (λ h. let r = signal (h .0) (h .1) (h .2) in signal-verdict d (as-signal d (h .0) (h .1) (r .1) .0) .none .0 (r .0)),
-        (λ m. let r = signal-met d m in (signalOf d, bodySize d, reading-taken d (r .0) ∙ r .1)),
+        (λ h. let r = holds-signal (h .0) (h .1) (h .2) in signals (as-signal d (h .0) (h .1) (r .1) .0) .none .0 (r .0)),
+        (λ m. (signalOf d, bodySize d, answer-taken _ d (signals (other m) .none .1 m) ∙ content-signal d (other m))),
       );
-      transmitter-refused = λ e n. Iff·trans (refuses-as d n) (transmitter-verdict d e .some n);
-      signal-refused = λ e n. Iff·trans (refuses-as d n) (signal-verdict d e .some n);
-      transmitter-content = λ t e. as-transmitter d t (transmitter t e .1) .1;
-      signal-content = λ s n e. let h = as-signal d s n (signal s n e .1) in (h .1, h .2);
+      transmitter-refused = λ e n. Iff·trans (answers-refused (first rules) d n) (transmitters e .some n);
+      signal-refused = λ e n. Iff·trans (answers-refused (first rules) d n) (signals e .some n);
+      transmitter-content = λ t e. as-transmitter d t (holds-transmitter t e .1) .1;
+      signal-content = λ s n e. let h = as-signal d s n (holds-signal s n e .1) in (h .1, h .2);
     }
+
+-- a Signal's byte 2 is not a Transmitter's
+not-transmitter : (d : List ℕ) → num 1 2 d ≡ 26 → num 1 2 d ≢ 25
+not-transmitter d type e = omega arith
+
+-- for every datagram, without a premise
+pub taken-exactly-when : (d : List ℕ) → TakenExactly d
+unfolding reading refusal
+taken-exactly-when d =
+    exactly-by d (readingRules d) (plainSignal d) (transmitter-verdict d) (signal-verdict d)
+    (λ (long, (version, ((type, family), rest))). not-transmitter d type)
+
+-- and of archive reading
+pub archived-exactly-when : (d : List ℕ) → ArchivedExactly d
+unfolding archiveReading archiveRefusal
+archived-exactly-when d =
+    exactly-by d (archiveRules d) (plainArchive d) (transmitter-archive d) (signal-archive d)
+    (λ (long, (version, ((type, family), rest))). not-transmitter d type)
 
 -- writing: the size, where no rule is broken
 pub writes-size : (r : Reading) (room : ℕ) → (written r room ≡ Size (sizeOf r)) ↔ (writingRefusal r room ≡ 0)

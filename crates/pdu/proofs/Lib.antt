@@ -8,3 +8,4 @@ pub mod FieldLaws
 pub mod RoundTrip
 pub mod PlaceLaws
 pub mod ReadLaws
+pub mod ArchiveLaws

@@ -37,7 +37,7 @@ use Rattle.pdu.proofs.Answers.{Holds, reading-taken, reads-as, taken-ex
 use Rattle.pdu.proofs.Taken.{signal-bounds, sound-form}
 use Rattle.pdu.proofs.BodyLaws.{body-given, given-at, body-clear}
 use Rattle.pdu.proofs.FieldLaws.{transmitter-fields, signal-fields}
-use Rattle.pdu.proofs.ReadLaws.{read-taken, taken-transmitter}
+use Rattle.pdu.proofs.ReadLaws.{read-taken, taken-laid, laid-transmitter}
 use Rattle.pdu.proofs.RoundTrip.{written-form-back, length-form, writes-rules, bytes-form, given-same, reads-back}
 
 -- ---- padding
@@ -66,7 +66,7 @@ transmitter-padding : (d : List ℕ) → Bytes d → refusal d ≡ 0 → num 1 2
 unfolding paddingZero
 transmitter-padding d b e type =
     let holds = content-transmitter d type in
-    let long : length d ≡ 112 = taken-transmitter d e type in
+    let long : length d ≡ 112 = laid-transmitter d (taken-laid d e) type in
     ap (λ (r : Reading). clear 0 (tableOf r) d) holds ∙ clear-pieces transmitterTable 0 0 d refl b (omega arith)
 
 -- the bytes before a Signal's body

@@ -13,26 +13,26 @@ use borrow.Author.Tests.{eqb-true, eqb-false, eq-eqb, ne-eqb}
 use native.Mathlib.Omega.{arith}
 use Rattle.wire.specs.Bytes.{num, splice}
 use Rattle.wire.proofs.ByteLaws.{splice-start}
-use Rattle.wire.specs.First.{first, lacks, numbered}
-use Rattle.wire.proofs.FirstLaws.{first-here, first-next, none-of, first-lacks}
+use Rattle.wire.specs.First.{first, lacks, numbered, without}
+use Rattle.wire.proofs.FirstLaws.{first-here, first-next, none-of, first-lacks, lacks-without}
 use Rattle.wire.specs.Table.{allBlank}
 use Rattle.wire.proofs.TableLaws.{both-true}
 use Rattle.wire.proofs.RuleLaws.{at-most, both}
 use Rattle.pdu.specs.Numbers
 use Rattle.pdu.specs.Words.{wordsIn}
-use Rattle.pdu.specs.Rules.{accessRules, slotRules, networkRules, bodyRules, innerRules}
+use Rattle.pdu.specs.Rules.{accessRules, slotRules, networkRules, liveRules, bodyRules, innerRules}
 use Rattle.pdu.specs.Forms.{tableOf, bytesOf, sizeOf, bodyIn}
 use Rattle.pdu.specs.Tables.{signalSize}
-use Rattle.pdu.specs.Reading.{bodySize, content, bodyOf, wrongLength, startRules, transmitterLayout, signalLayout, layoutRules}
-use Rattle.pdu.specs.Reading.{formRules, readingRules, refusal, reading}
-use Rattle.pdu.specs.Plain.{TimingRule, NoThirteen}
+use Rattle.pdu.specs.Reading.{bodySize, saysTransmitter, content, bodyOf, wrongLength, startRules, transmitterLayout, signalLayout}
+use Rattle.pdu.specs.Reading.{layoutRules, formRules, Laid, readingRules, refusal, reading, archiveRules, archiveRefusal, archiveReading}
+use Rattle.pdu.specs.Plain.{TimingRule, LiveRule, NoThirteen}
 use Rattle.pdu.specs.Writing.{recordRules, writingRules, writingRefusal, outputAfter, writtenForm, writtenAs, inWrittenForm}
 use Rattle.pdu.specs.declared.Signal.{Signal}
 use Rattle.pdu.specs.declared.Reading.{Reading}
 use Rattle.pdu.specs.declared.Reading.the-variants.{Refused, Transmitter as aTransmitter, Signal as aSignal}
 use Rattle.pdu.proofs.Agreement.{length-says, content-transmitter, content-signal, start-verdict, transmitter-layout, signal-layout}
 use Rattle.pdu.proofs.Agreement.{inner-record, signal-record}
-use Rattle.pdu.proofs.Answers.{Holds, reads-as, refuses-as, reading-taken, reading-refused, writes-refused}
+use Rattle.pdu.proofs.Answers.{Holds, answers-refused, reads-as, refuses-as, reading-taken, reading-refused, writes-refused}
 use Rattle.pdu.proofs.Taken.{Taken, taken, signal-bounds}
 use Rattle.pdu.proofs.RoundTrip.{length-form, written-form-back, written-back}
 
@@ -84,11 +84,20 @@ pub taken-words : (d : List ℕ) (s : Signal) (n : ℕ)
     → s .network .«message_type» ≡ 0
     → (n ≡ Numbers.bodyHeader + Numbers.wordBytes * wordsIn n) × (wordsIn n ≤ Numbers.mostWords)
 taken-words d s n e zero-type =
-    let (v, (encoding, (npg, (net, (tsec, (msec, (type, (slot, (epoch, (last, ((words, six), ((few, most), end)))))))))))) =
+    let (v, (encoding, (npg, (net, (tsec, (msec, (type, (slot, (epoch, (last, (live, ((words, six), ((few, most), end))))))))))))) =
     signal-record s n .none .0 (read-taken d (aSignal s n) tt e .rules) in
     let whole : n ≡ 6 + 10 * (words zero-type .0) = words zero-type .1 in
     let short : n ≤ 126 = few zero-type in
     (omega arith, omega arith)
+
+-- a message type that is read is one of the eight, and not retired
+pub taken-type : (d : List ℕ) (s : Signal) (n : ℕ)
+    → reading d ≡ aSignal s n
+    → (s .network .«message_type» ≤ Numbers.lastMessageType) × LiveRule (s .network .«message_type»)
+taken-type d s n e =
+    let (v, (encoding, (npg, (net, (tsec, (msec, (type, (slot, (epoch, (last, (live, body))))))))))) =
+    signal-record s n .none .0 (read-taken d (aSignal s n) tt e .rules) in
+    (type, live)
 
 -- a body of round-trip timing has six bytes
 pub taken-timing : (d : List ℕ) (s : Signal) (n : ℕ)
@@ -100,7 +109,7 @@ taken-timing d s n e timing = signal-bounds s n (read-taken d (aSignal s n) tt e
 -- a body that breaks no rule has the size of round-trip timing where it is that
 pub timing-size : (s : Signal) (n : ℕ) → first (innerRules (aSignal s n)) ≡ 0 → TimingRule (s .network .«message_type») n
 timing-size s n e =
-    let (npg, (net, (tsec, (msec, (type, (slot, (epoch, (last, ((words, six), rest))))))))) = inner-record s n .none .0 e in
+    let (npg, (net, (tsec, (msec, (type, (slot, (epoch, (last, (live, ((words, six), rest)))))))))) = inner-record s n .none .0 e in
     six
 
 -- the size answered for a taken datagram is its own length, and for a refused one it is 0
@@ -170,23 +179,34 @@ not-written r d e = rw (ne-eqb (first (formRules r d)) 0 e)
 pub written-blank : (r : Reading) (d : List ℕ) → first (formRules r d) ≡ 0 → writtenAs r d ≡ allBlank 0 (tableOf r) d
 written-blank r d e = rw (eq-eqb (first (formRules r d)) 0 e)
 
--- of a taken datagram every part is unbroken
-taken-parts : (d : List ℕ) → refusal d ≡ 0 → (first (startRules d) ≡ 0) × (first (layoutRules (content d) d) ≡ 0)
+-- a taken datagram has its layout
+pub taken-laid : (d : List ℕ) → refusal d ≡ 0 → Laid d
 unfolding refusal readingRules startRules
-taken-parts d e =
+taken-laid d e =
     let (start, form) = none-of (startRules d) (formRules (content d) d) refl e in
     (start, none-of (layoutRules (content d) d) _ (layout-numbered (content d) d) form .0)
 
-pub taken-long : (d : List ℕ) → refusal d ≡ 0 → Numbers.shortest ≤ length d
-taken-long d e = start-long d (taken-parts d e .0)
+-- by its layout it has a header's start, and the length that its form needs
+pub laid-long : (d : List ℕ) → Laid d → Numbers.shortest ≤ length d
+laid-long d h = start-long d (h .0)
 
-pub taken-transmitter : (d : List ℕ) → refusal d ≡ 0 → num 1 2 d ≡ 25 → length d ≡ Numbers.transmitterSize
-taken-transmitter d e type =
-    transmitter-laid d (subst (λ (r : Reading). first (layoutRules r d) ≡ 0) (content-transmitter d type) (taken-parts d e .1))
+pub laid-transmitter : (d : List ℕ) → Laid d → num 1 2 d ≡ 25 → length d ≡ Numbers.transmitterSize
+laid-transmitter d h type =
+    transmitter-laid d (subst (λ (r : Reading). first (layoutRules r d) ≡ 0) (content-transmitter d type) (h .1))
 
-pub taken-signal : (d : List ℕ) → refusal d ≡ 0 → num 1 2 d ≢ 25 → first (signalLayout d) ≡ 0
-taken-signal d e type =
-    subst (λ (r : Reading). first (layoutRules r d) ≡ 0) (content-signal d type) (taken-parts d e .1)
+pub laid-signal : (d : List ℕ) → Laid d → num 1 2 d ≢ 25 → first (signalLayout d) ≡ 0
+laid-signal d h type = subst (λ (r : Reading). first (layoutRules r d) ≡ 0) (content-signal d type) (h .1)
+
+pub laid-size : (d : List ℕ) → Laid d → length d ≡ sizeOf (content d)
+laid-size d h = by (saysTransmitter d) refl
+  where
+    by : (b : Bool) → saysTransmitter d ≡ b → length d ≡ sizeOf (content d)
+    by true t =
+        let type = eqb-true _ _ t in
+        laid-transmitter d h type ∙ ap sizeOf (sym (content-transmitter d type))
+    by false t =
+        let type = eqb-false _ _ t in
+        signal-laid d (laid-signal d h type) .size ∙ ap sizeOf (sym (content-signal d type))
 
 -- ---- the numbers that reading and writing do not give
 
@@ -204,7 +224,7 @@ isOthers n = leb 16 n && leb n 49
 
 -- they are never the reader's
 pub refusal-apart : (d : List ℕ) (k : ℕ) → 16 ≤ k → k ≤ 49 → refusal d ≡ k → ⊥
-unfolding startRules transmitterLayout signalLayout innerRules networkRules accessRules slotRules bodyRules
+unfolding startRules transmitterLayout signalLayout innerRules liveRules networkRules accessRules slotRules bodyRules
 refusal-apart d k low high e = true≢false (sym inside ∙ reading-lacks isOthers d by-form refl)
   where
     inside : isOthers (refusal d) ≡ true
@@ -220,20 +240,27 @@ abbrev isThirteen : ℕ → Bool
 isThirteen n = eqb n 13
 
 read-without : (d : List ℕ) (r : Reading) → lacks isThirteen (startRules d ++ formRules r d) ≡ true
-unfolding startRules transmitterLayout signalLayout innerRules networkRules accessRules slotRules bodyRules
+unfolding startRules transmitterLayout signalLayout innerRules liveRules networkRules accessRules slotRules bodyRules
 read-without d (Refused n) = refl
 read-without d (aTransmitter t) = refl
 read-without d (aSignal s n) = refl
 
 write-without : (r : Reading) (room : ℕ) → lacks isThirteen (writingRules r room) ≡ true
-unfolding writingRules recordRules innerRules networkRules accessRules slotRules bodyRules
+unfolding writingRules recordRules innerRules liveRules networkRules accessRules slotRules bodyRules
 write-without (Refused n) room = refl
 write-without (aTransmitter t) room = refl
 write-without (aSignal s n) room = refl
 
+archive-without : (d : List ℕ) → isThirteen (archiveRefusal d) ≡ false
+unfolding archiveRules archiveRefusal readingRules
+archive-without d =
+    first-lacks isThirteen (without 50 (readingRules d)) refl (lacks-without isThirteen 50 (readingRules d) (read-without d (content d)))
+
 pub no-thirteen : NoThirteen
+unfolding archiveReading
 no-thirteen = record {
   reading-gives = λ d n e q. eqb-false (refusal d) 13 (reading-lacks isThirteen d (read-without d) refl) (refuses-as d n .0 e .0 ∙ q);
+  archive-gives = λ d n e q. eqb-false (archiveRefusal d) 13 (archive-without d) (answers-refused (archiveRefusal d) d n .0 e .0 ∙ q);
   writing-gives = λ r room n e q.
       eqb-false (writingRefusal r room) 13 (first-lacks isThirteen (writingRules r room) refl (write-without r room)) (writes-refused r room n .0 e .0 ∙ q);
 }

@@ -22,7 +22,7 @@ use Rattle.wire.proofs.FitLaws.{bytes-fill, bytes-take, bytes-drop, fit-read}
 use Rattle.wire.proofs.AppendLaws.{fill-append}
 use Rattle.wire.proofs.RuleLaws.{_also_, equal, one-of, both-then}
 use Rattle.pdu.specs.Numbers
-use Rattle.pdu.specs.Rules.{accessRules, slotRules, networkRules, bodyRules, innerRules}
+use Rattle.pdu.specs.Rules.{accessRules, slotRules, networkRules, liveRules, bodyRules, innerRules}
 use Rattle.pdu.specs.Tables.{fillOf, transmitterTable, signalHead, timingSlots, bodySlots, bodyTable}
 use Rattle.pdu.specs.Records.{transmitterValues, signalValues}
 use Rattle.pdu.specs.Forms.{tableOf, bodyValues, bodyCleared, valuesOf, bytesOf, sizeOf, bodyIn}
@@ -58,7 +58,7 @@ length-form r body = length-fill (tableOf r) (valuesOf r body) ∙ width-form r
 
 -- no rule of a record has the number 0
 record-numbered : (r : Reading) → numbered (recordRules r) ≡ true
-unfolding recordRules innerRules networkRules accessRules slotRules bodyRules
+unfolding recordRules innerRules liveRules networkRules accessRules slotRules bodyRules
 record-numbered (Refused n) = refl
 record-numbered (aTransmitter t) = refl
 record-numbered (aSignal s n) = refl

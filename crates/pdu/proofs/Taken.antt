@@ -114,7 +114,7 @@ pub record SignalBounds (s : Signal) (n : ℕ) : Type 0 where
 
 pub signal-bounds : (s : Signal) (n : ℕ) → first (recordRules (aSignal s n)) ≡ 0 → SignalBounds s n
 signal-bounds s n e =
-    let (v, (encoding, (npg, (net, (tsec, (msec, (type, (slot, (epoch, (last, ((words, six), ((few, most), end)))))))))))) =
+    let (v, (encoding, (npg, (net, (tsec, (msec, (type, (slot, (epoch, (last, (live, ((words, six), ((few, most), end))))))))))))) =
     signal-record s n .none .0 e in
     record { encoding = omega arith; slot = slot; body = by (eqb (s .network .«message_type») 0) refl few most; timing = six }
   where

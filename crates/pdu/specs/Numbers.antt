@@ -135,6 +135,13 @@ timingReply = 2
 abbrev pub timingBytes : ℕ
 timingBytes = 6
 
+-- 02, R-4: the first and the last of the message types that are retired
+abbrev pub firstRetired : ℕ
+firstRetired = 3
+
+abbrev pub lastRetired : ℕ
+lastRetired = 5
+
 -- where a Signal's body starts
 abbrev pub bodyStart : ℕ
 bodyStart = 52

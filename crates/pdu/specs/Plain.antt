@@ -10,9 +10,10 @@ use Rattle.wire.specs.Rules.{Rule, _unless_, Met, FirstBroken}
 use Rattle.pdu.specs.Forms.{sizeOf}
 use Rattle.pdu.specs.Writing.{written}
 use Rattle.pdu.specs.declared.Written.the-variants.{Refused as NotWritten, Size}
-use Rattle.pdu.specs.Reading.{transmitterOf, signalOf, bodySize, reading}
+use Rattle.pdu.specs.Reading.{transmitterOf, signalOf, bodySize, reading, archiveReading}
 use Rattle.pdu.specs.declared.Transmitter.{Transmitter}
 use Rattle.pdu.specs.declared.Signal.{Signal}
+use Rattle.pdu.specs.declared.Network.{Network}
 use Rattle.pdu.specs.declared.Reading.{Reading}
 use Rattle.pdu.specs.declared.Reading.the-variants.{Refused, Transmitter as aTransmitter, Signal as aSignal}
 
@@ -83,9 +84,13 @@ TimingRule type size = (type ≡ 1) ⊎ (type ≡ 2) → size ≡ 6
 abbrev pub SizeRule : ℕ → ℕ → Type 0
 SizeRule type size = (type ≡ 0 → size ≤ 126) × (type ≢ 0 → size ≤ 256)
 
--- 131 to 138, 14, 15, for NPG, net, TSEC, MSEC, message type, slot, epoch and the body's size (01: "32 NPG" to "Type 0 body"; the numbers: 02, R-3)
-abbrev pub plainNetwork : ℕ → ℕ → ℕ → ℕ → ℕ → ℕ → ℕ → ℕ → List Rule
-plainNetwork npg net tsec msec type slot epoch size =
+-- 50 (02, R-4): not a message of the types 3 to 5
+abbrev pub LiveRule : ℕ → Type 0
+LiveRule type = (type ≢ 3) × (type ≢ 4) × (type ≢ 5)
+
+-- 131 to 138, for NPG, net, TSEC, MSEC, message type, slot and epoch (01: "32 NPG" to "Slot ID"; the numbers: 02, R-3)
+abbrev pub plainNetwork : ℕ → ℕ → ℕ → ℕ → ℕ → ℕ → ℕ → List Rule
+plainNetwork npg net tsec msec type slot epoch =
     (131 unless (npg ≤ 511))
     ∷ (132 unless (net ≤ 127))
     ∷ (133 unless SecurityRule tsec)
@@ -94,7 +99,12 @@ plainNetwork npg net tsec msec type slot epoch size =
     ∷ (136 unless (slot ≤ 98303))
     ∷ (137 unless (epoch ≤ 112))
     ∷ (138 unless (epoch ≡ 112 → slot ≤ 49151))
-    ∷ (14 unless (WordsRule type size × TimingRule type size))
+    ∷ []
+
+-- 14, 15, for the message type and the body's size (01: "Type 0 body")
+abbrev pub plainBody : ℕ → ℕ → List Rule
+plainBody type size =
+    (14 unless (WordsRule type size × TimingRule type size))
     ∷ (15 unless SizeRule type size)
     ∷ []
 
@@ -105,10 +115,17 @@ slotOf d = num 4 40 d % 2 ^ 17
 abbrev pub epochOf : List ℕ → ℕ
 epochOf d = num 4 40 d / 2 ^ 24 % 2 ^ 8
 
--- 131 to 138, 14, 15 of a datagram; the data length counts the network header's 20 bytes
+-- 131 to 138 of a datagram
+abbrev pub plainNetworkAt : List ℕ → List Rule
+plainNetworkAt d = plainNetwork (num 2 32 d) (num 1 34 d) (num 1 35 d) (num 1 36 d) (num 1 37 d) (slotOf d) (epochOf d)
+
+-- 14, 15 of a datagram; the data length counts the network header's 20 bytes
+abbrev pub plainBodyAt : List ℕ → List Rule
+plainBodyAt d = plainBody (num 1 37 d) (num 2 28 d / 8 - 20)
+
+-- 131 to 138, 50, 14, 15 of a datagram
 abbrev pub plainInner : List ℕ → List Rule
-plainInner d =
-    plainNetwork (num 2 32 d) (num 1 34 d) (num 1 35 d) (num 1 36 d) (num 1 37 d) (slotOf d) (epochOf d) (num 2 28 d / 8 - 20)
+plainInner d = plainNetworkAt d ++ ((50 unless LiveRule (num 1 37 d)) ∷ plainBodyAt d)
 
 -- 4, 10, 11, 12, 8 of a Signal
 abbrev pub plainSignalLayout : List ℕ → List Rule
@@ -120,9 +137,13 @@ plainSignalLayout d =
     ∷ (8 unless FilledTo (32 + num 2 28 d / 8) (length d))
     ∷ []
 
--- Signal: 1, 2, 3, 4, 10, 11, 12, 8, 131 to 138, 14, 15 (01: "Signal"; 02, R-3)
+-- Signal: 1, 2, 3, 4, 10, 11, 12, 8, 131 to 138, 50, 14, 15 (01: "Signal"; 02, R-3 and R-4)
 abbrev pub plainSignal : List ℕ → List Rule
 plainSignal d = plainStart (num 1 2 d ≡ 26) d ++ (plainSignalLayout d ++ plainInner d)
+
+-- a Signal in an old capture: 1, 2, 3, 4, 10, 11, 12, 8, 131 to 138, 14, 15, as before 02, R-4
+abbrev pub plainArchive : List ℕ → List Rule
+plainArchive d = plainStart (num 1 2 d ≡ 26) d ++ (plainSignalLayout d ++ (plainNetworkAt d ++ plainBodyAt d))
 
 -- the rules of a Transmitter to be written: 2, 9
 abbrev pub plainTransmitterRecord : Transmitter → List Rule
@@ -131,39 +152,60 @@ plainTransmitterRecord t =
     ∷ (9 unless SyncRule (t .sync .level) (t .sync .primary) (t .sync .secondary) (t .sync .state) (t .sync .id))
     ∷ []
 
--- the rules of a Signal to be written, with a body of n bytes: 2, 10, 131 to 138, 14, 15
+-- 131 to 138, 50, 14, 15 of a network header and a body of n bytes
+abbrev pub plainInnerOf : Network → ℕ → List Rule
+plainInnerOf k n =
+    plainNetwork (k .npg) (k .net) (k .tsec) (k .msec) (k .«message_type») (k .slot) (k .epoch)
+    ++ ((50 unless LiveRule (k .«message_type»)) ∷ plainBody (k .«message_type») n)
+
+-- the rules of a Signal to be written, with a body of n bytes: 2, 10, 131 to 138, 50, 14, 15
 abbrev pub plainSignalRecord : Signal → ℕ → List Rule
 plainSignalRecord s n =
-    let k = s .network in
     (2 unless ((s .header .version ≡ 5) ⊎ (s .header .version ≡ 6)))
     ∷ (10 unless (s .encoding ≤ 16383))
-    ∷ plainNetwork (k .npg) (k .net) (k .tsec) (k .msec) (k .«message_type») (k .slot) (k .epoch) n
+    ∷ plainInnerOf (s .network) n
 
 -- Writing: 2, 9, 16 for a Transmitter
 abbrev pub plainTransmitterWriting : Transmitter → ℕ → List Rule
 plainTransmitterWriting t room = plainTransmitterRecord t ++ ((16 unless (112 ≤ room)) ∷ [])
 
--- 2, 10, 131 to 138, 14, 15, 16 for a Signal: the room is at least each filled size, of which there is one
+-- 2, 10, 131 to 138, 50, 14, 15, 16 for a Signal: the room is at least each filled size, of which there is one
 abbrev pub plainSignalWriting : Signal → ℕ → ℕ → List Rule
 plainSignalWriting s n room =
     plainSignalRecord s n ++ ((16 unless ((size : ℕ) → FilledTo (52 + n) size → size ≤ room)) ∷ [])
 
--- what reading says of every datagram: taken exactly when every plain rule of its layout holds; refused by the first that does not; and what
--- is taken is what the table gives
-pub record TakenExactly (d : List ℕ) : Type 0 where
-  pub transmitter-taken : ((t : Transmitter) × (reading d ≡ aTransmitter t)) ↔ Met (plainTransmitter d)
-  pub signal-taken : ((s : Signal) × (n : ℕ) × (reading d ≡ aSignal s n)) ↔ Met (plainSignal d)
-  pub transmitter-refused : num 1 2 d ≡ 25 → (n : ℕ) → (reading d ≡ Refused n) ↔ FirstBroken n (plainTransmitter d)
-  pub signal-refused : num 1 2 d ≢ 25 → (n : ℕ) → (reading d ≡ Refused n) ↔ FirstBroken n (plainSignal d)
-  pub transmitter-content : (t : Transmitter) → reading d ≡ aTransmitter t → t ≡ transmitterOf d
-  pub signal-content : (s : Signal) (n : ℕ) → reading d ≡ aSignal s n → (s ≡ signalOf d) × (n ≡ bodySize d)
+-- what an answer says of a datagram, by the plain rules of a Signal: taken exactly when every plain rule of its layout holds; refused by the first
+-- that does not; and what is taken is what the table gives
+pub record TakenBy (answer : Reading) (signal : List Rule) (d : List ℕ) : Type 0 where
+  pub transmitter-taken : ((t : Transmitter) × (answer ≡ aTransmitter t)) ↔ Met (plainTransmitter d)
+  pub signal-taken : ((s : Signal) × (n : ℕ) × (answer ≡ aSignal s n)) ↔ Met signal
+  pub transmitter-refused : num 1 2 d ≡ 25 → (n : ℕ) → (answer ≡ Refused n) ↔ FirstBroken n (plainTransmitter d)
+  pub signal-refused : num 1 2 d ≢ 25 → (n : ℕ) → (answer ≡ Refused n) ↔ FirstBroken n signal
+  pub transmitter-content : (t : Transmitter) → answer ≡ aTransmitter t → t ≡ transmitterOf d
+  pub signal-content : (s : Signal) (n : ℕ) → answer ≡ aSignal s n → (s ≡ signalOf d) × (n ≡ bodySize d)
+
+-- what reading says of every datagram
+abbrev pub TakenExactly : List ℕ → Type 0
+TakenExactly d = TakenBy (reading d) (plainSignal d) d
+
+-- and archive reading (02, R-4): "takes them exactly as live reading did till now"
+abbrev pub ArchivedExactly : List ℕ → Type 0
+ArchivedExactly d = TakenBy (archiveReading d) (plainArchive d) d
+
+-- 02, R-4: archive reading beside live reading. It "differs from it on nothing else" than 50, and where live reading gives that, 14 and 15 decide
+pub record ArchiveBeside (d : List ℕ) : Type 0 where
+  pub elsewhere : reading d ≢ Refused 50 → archiveReading d ≡ reading d
+  pub taken-there : reading d ≡ Refused 50 → (archiveReading d ≡ aSignal (signalOf d) (bodySize d)) ↔ Met (plainBodyAt d)
+  pub refused-there : reading d ≡ Refused 50 → (n : ℕ) → (archiveReading d ≡ Refused n) ↔ FirstBroken n (plainBodyAt d)
+  pub never-50 : archiveReading d ≢ Refused 50
 
 -- what writing says of every record: written, with its size, exactly when every plain rule holds and there is room; else the first that does not
 pub record WrittenExactly (r : Reading) (plain : List Rule) (room : ℕ) : Type 0 where
   pub written-size : (written r room ≡ Size (sizeOf r)) ↔ Met plain
   pub refused : (n : ℕ) → (written r room ≡ NotWritten n) ↔ FirstBroken n plain
 
--- 02, R-3: each of the eight rules has a number of its own "in place of 13", which neither reading nor writing gives any more
+-- 02, R-3: each of the eight rules has a number of its own "in place of 13", which neither reading, archive reading too, nor writing gives any more
 pub record NoThirteen : Type 0 where
   pub reading-gives : (d : List ℕ) (n : ℕ) → reading d ≡ Refused n → n ≢ 13
+  pub archive-gives : (d : List ℕ) (n : ℕ) → archiveReading d ≡ Refused n → n ≢ 13
   pub writing-gives : (r : Reading) (room n : ℕ) → written r room ≡ NotWritten n → n ≢ 13

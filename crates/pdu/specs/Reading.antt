@@ -1,11 +1,12 @@
--- Reading a datagram: the refusals in document 01's order, and the answer.
+-- Reading a datagram: the refusals in document 01's order, and the answer; live reading, and archive reading of old captures (02, R-4).
 use Prim.Native.Nat.{ℕ, _+_, _-_, _*_, _/_, _%_}
+use mathlib.Core.Path.{_≡_}
 use mathlib.Core.Bool.{Bool, cond, not, _&&_, _||_}
 use mathlib.Core.List.{List, [], _∷_, _++_}
 use lib.ListN.{length}
 use lib.Dec.{eqb, ltb}
 use Rattle.wire.specs.Bytes.{num}
-use Rattle.wire.specs.First.{Refusal, _given-when_, first, told}
+use Rattle.wire.specs.First.{Refusal, _given-when_, first, without, told}
 use Rattle.wire.specs.Table.{read}
 use Rattle.pdu.specs.Numbers
 use Rattle.pdu.specs.Tables.{filled, headerTable, transmitterTable, signalHead}
@@ -109,6 +110,10 @@ layoutRules (aSignal s n) d = signalLayout d
 abbrev pub formRules : Reading → List ℕ → List Refusal
 formRules r d = layoutRules r d ++ innerRules r
 
+-- a datagram that breaks neither 1, 2, 3 nor a rule of its layout: every field of its form lies in it
+abbrev pub Laid : List ℕ → Type 0
+Laid d = (first (startRules d) ≡ 0) × (first (layoutRules (content d) d) ≡ 0)
+
 -- all refusals of reading, in order
 unfoldable pub readingRules : List ℕ → List Refusal
 readingRules d = startRules d ++ formRules (content d) d
@@ -117,9 +122,13 @@ readingRules d = startRules d ++ formRules (content d) d
 unfoldable pub refusal : List ℕ → ℕ
 refusal d = first (readingRules d)
 
+-- the answer about a datagram by its refusal number: what it holds where that is 0, else the number
+abbrev pub answerBy : ℕ → List ℕ → Reading
+answerBy n d = cond (eqb n 0) (content d) (Refused n)
+
 -- what reading answers
 unfoldable pub reading : List ℕ → Reading
-reading d = cond (eqb (refusal d) 0) (content d) (Refused (refusal d))
+reading d = answerBy (refusal d) d
 
 -- document 01's number of each answer of reading
 abbrev pub numberOf : Reading → ℕ
@@ -137,6 +146,28 @@ valuesHeld (aSignal s n) = signalValues s (n ∷ [])
 abbrev pub readingSays : Reading → List ℕ
 readingSays r = numberOf r ∷ valuesHeld r
 
--- what reading says in document 01's numbers: the refusal's alone, or 0 and what the datagram holds
+-- what an answer by this refusal number says in document 01's numbers: the refusal's alone, or 0 and what the datagram holds
+abbrev pub saidBy : ℕ → List ℕ → List ℕ
+saidBy n d = told n (valuesHeld (content d))
+
+-- what reading says
 abbrev pub readSays : List ℕ → List ℕ
-readSays d = told (refusal d) (valuesHeld (content d))
+readSays d = saidBy (refusal d) d
+
+-- ---- archive reading (02, R-4)
+
+-- "exactly as live reading did till now": the refusals of live reading, whatever they are, without 50
+unfoldable pub archiveRules : List ℕ → List Refusal
+archiveRules d = without 50 (readingRules d)
+
+-- the refusal number of a datagram in archive reading, 0 where it is taken
+unfoldable pub archiveRefusal : List ℕ → ℕ
+archiveRefusal d = first (archiveRules d)
+
+-- what archive reading answers
+unfoldable pub archiveReading : List ℕ → Reading
+archiveReading d = answerBy (archiveRefusal d) d
+
+-- and says
+abbrev pub archiveSays : List ℕ → List ℕ
+archiveSays d = saidBy (archiveRefusal d) d

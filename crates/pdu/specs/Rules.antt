@@ -60,6 +60,14 @@ slotRules n =
 unfoldable pub networkRules : Network → List Refusal
 networkRules n = accessRules n ++ slotRules n
 
+-- 02, R-4: "Types 3, 4 and 5 are retired"
+abbrev pub isRetired : ℕ → Bool
+isRetired type = leb Numbers.firstRetired type && leb type Numbers.lastRetired
+
+-- 131 to 138, and 50 (02, R-4): "after the network header's tests and before 14"
+unfoldable pub liveRules : Network → List Refusal
+liveRules n = networkRules n ++ ((50 given-when isRetired (n .«message_type»)) ∷ [])
+
 -- 02, R-1: the body of round-trip timing has six bytes
 abbrev pub wrongTiming : ℕ → ℕ → Bool
 wrongTiming type n = isTiming type && not (eqb n Numbers.timingBytes)
@@ -75,8 +83,8 @@ bodyRules type n =
     ∷ (15 given-when cond (eqb type 0) (ltb Numbers.mostWords (wordsIn n)) (ltb Numbers.mostBytes n))
     ∷ []
 
--- the rules that reading tries last and writing tries before 16: 9; or 131 to 138, 14, 15
+-- the rules that reading tries last and writing tries before 16: 9; or 131 to 138, 50, 14, 15
 unfoldable pub innerRules : Reading → List Refusal
 innerRules (Refused n) = []
 innerRules (Transmitter t) = (9 given-when wrongSync (t .sync)) ∷ []
-innerRules (Signal s n) = networkRules (s .network) ++ bodyRules (s .network .«message_type») n
+innerRules (Signal s n) = liveRules (s .network) ++ bodyRules (s .network .«message_type») n

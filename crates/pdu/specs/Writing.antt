@@ -18,7 +18,7 @@ use Rattle.pdu.specs.declared.Written.the-variants.{Refused, Size}
 use Rattle.pdu.specs.declared.Carried.{Carried}
 use Rattle.pdu.specs.declared.Carried.the-variants.{Other, Pdu}
 
--- the rules of a record: 2, 9 of a Transmitter; 2, 10, 131 to 138, 14, 15 of a Signal. A refusal is no record
+-- the rules of a record: 2, 9 of a Transmitter; 2, 10, 131 to 138, 50, 14, 15 of a Signal. A refusal is no record
 unfoldable pub recordRules : Reading → List Refusal
 recordRules (NotRead n) = (2 given-when true) ∷ []
 recordRules (Transmitter t) = (2 given-when wrongVersion (t .header .version)) ∷ innerRules (Transmitter t)
@@ -27,7 +27,7 @@ recordRules (Signal s n) =
     ∷ (10 given-when ltb (Numbers.encodingKept - 1) (s .encoding))
     ∷ innerRules (Signal s n)
 
--- "Writing: 2, then 9, 16 for a Transmitter or 10, 13, 14, 15, 16 for a Signal", with 131 to 138 for 13 (02, R-3)
+-- "Writing: 2, then 9, 16 for a Transmitter or 10, 13, 14, 15, 16 for a Signal", with 131 to 138 for 13 (02, R-3) and 50 before 14 (R-4)
 unfoldable pub writingRules : Reading → ℕ → List Refusal
 writingRules r room = recordRules r ++ ((16 given-when ltb room (sizeOf r)) ∷ [])
 

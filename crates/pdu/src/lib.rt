@@ -115,6 +115,11 @@ pub const TIMING_HIGHS: u16 = 8;
 
 pub const TIMING_UNIT: u64 = 4294967296;
 
+// The message types that are retired (request R-4).
+pub const FIRST_RETIRED: u8 = 3;
+
+pub const LAST_RETIRED: u8 = 5;
+
 // The last two bytes of a word start here; they hold the format in 2 bits, the label in 5 above it and the sublabel in 3 above that.
 pub const WORD_LOW: usize = 8;
 

@@ -49,6 +49,9 @@ pub const EPOCH: u8 = 137;
 
 pub const LATE_SLOT: u8 = 138;
 
+// A retired message type (request R-4).
+pub const RETIRED: u8 = 50;
+
 // The body is not whole words, or has not the size of round-trip timing.
 pub const BODY_SIZE: u8 = 14;
 

@@ -4,8 +4,8 @@ ghost use Prim.Native.Nat.{_+_};
 ghost use Rattle.wire.specs.First.{first};
 ghost use Rattle.pdu.specs.Tables.{filled, signalSize, isTiming};
 ghost use Rattle.pdu.specs.Words.{wordsIn};
-ghost use Rattle.pdu.specs.Rules.{wrongVersion, isPrimary, wrongSync, wrongSecurity, accessRules, isTooLate, slotRules, networkRules};
-ghost use Rattle.pdu.specs.Rules.{wrongTiming, bodyRules};
+ghost use Rattle.pdu.specs.Rules.{wrongVersion, isPrimary, wrongSync, wrongSecurity, accessRules, isTooLate, slotRules, networkRules, isRetired};
+ghost use Rattle.pdu.specs.Rules.{liveRules, wrongTiming, bodyRules};
 use crate::Network;
 use crate::Sync;
 use crate::refusals;
@@ -97,7 +97,7 @@ fn slot_refusal(n: Network) -> u8
 }
 
 // The number of the first broken rule of the network header, or 0.
-pub fn network_refusal(n: Network) -> u8
+fn network_refusal(n: Network) -> u8
     ensures { λ r. ⌜ r ≡ first (networkRules n) ⌝ }
 {
     let refused = access_refusal(n);
@@ -105,6 +105,30 @@ pub fn network_refusal(n: Network) -> u8
         return refused;
     }
     slot_refusal(n)
+}
+
+// Whether a message type is retired.
+fn is_retired(message_type: u8) -> bool
+    ensures { λ r. ⌜ r ≡ isRetired «message_type» ⌝ }
+{
+    wire::both(
+        crate::FIRST_RETIRED <= message_type,
+        message_type <= crate::LAST_RETIRED,
+    )
+}
+
+// The number of the first broken rule of the network header and of 50, which comes after it, or 0.
+pub fn live_refusal(n: Network) -> u8
+    ensures { λ r. ⌜ r ≡ first (liveRules n) ⌝ }
+{
+    let refused = network_refusal(n);
+    if refused != 0 {
+        return refused;
+    }
+    if is_retired(n.message_type) {
+        return refusals::RETIRED;
+    }
+    0
 }
 
 // How many whole words stand behind the header of a type 0 body of n bytes.

@@ -2,10 +2,12 @@
 // Every public call takes every input and is promised down to each bit of its answer.
 ghost use mathlib.Core.Path.{_≡_};
 ghost use Rattle.pdu.specs.Forms.{sizeOf};
-ghost use Rattle.pdu.specs.Reading.{refusal, content, reading, numberOf, readingSays, readSays};
+ghost use Rattle.pdu.specs.Reading.{Laid, refusal, content, reading, numberOf, readingSays, readSays};
+ghost use Rattle.pdu.specs.Reading.{archiveRefusal, archiveReading, archiveSays};
 ghost use Rattle.pdu.specs.Writing.{inWrittenForm, carried, carriedSays, carriedSaid};
 use pdu::Carried;
 use pdu::Reading;
+use pdu::refusals;
 
 mod signal;
 mod start;
@@ -28,9 +30,20 @@ pub fn reading_refusal(d: &[u8]) -> u8
     }
 }
 
-// What a taken datagram holds.
+// The same without 50, which live reading alone gives: where it does, the rules behind it decide.
+pub fn archive_refusal(d: &[u8]) -> u8
+    ensures { λ r. ⌜ r ≡ archiveRefusal (now (d .entry)) ⌝ }
+{
+    let n = reading_refusal(d);
+    if n != refusals::RETIRED {
+        return n;
+    }
+    signal::body_refusal(d)
+}
+
+// What a datagram holds that has its layout.
 fn content(d: &[u8]) -> Reading
-    requires { ⌜ refusal (now d) ≡ 0 ⌝ }
+    requires { ⌜ Laid (now d) ⌝ }
     ensures { λ r. ⌜ r ≡ content (now (d .entry)) ⌝ }
 {
     if wire::u8_at(d, 2) == pdu::TRANSMITTER_TYPE {
@@ -48,6 +61,18 @@ pub fn read(datagram: &[u8]) -> Reading
     ensures says { λ r. ⌜ readingSays r ≡ readSays (now (datagram .entry)) ⌝ }
 {
     let n = reading_refusal(datagram);
+    if n != 0 {
+        return Reading::Refused(n);
+    }
+    content(datagram)
+}
+
+// Reads a datagram of an old capture: takes retired messages too, and is `read` on everything else (request R-4).
+pub fn read_archive(datagram: &[u8]) -> Reading
+    ensures answer { λ r. ⌜ r ≡ archiveReading (now (datagram .entry)) ⌝ }
+    ensures says { λ r. ⌜ readingSays r ≡ archiveSays (now (datagram .entry)) ⌝ }
+{
+    let n = archive_refusal(datagram);
     if n != 0 {
         return Reading::Refused(n);
     }

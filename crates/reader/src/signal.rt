@@ -7,7 +7,7 @@ ghost use Rattle.wire.specs.Table.{allBlank};
 ghost use Rattle.pdu.specs.Numbers.{shortest, bodyStart};
 ghost use Rattle.pdu.specs.Tables.{networkTable};
 ghost use Rattle.pdu.specs.Forms.{tableOf};
-ghost use Rattle.pdu.specs.Rules.{innerRules};
+ghost use Rattle.pdu.specs.Rules.{bodyRules, innerRules};
 ghost use Rattle.pdu.specs.Reading.{signalOf, bodySize, wrongBits, signalLayout, formRules};
 ghost use Rattle.pdu.specs.Writing.{bodyBlank, writtenAs};
 ghost use Rattle.pdu.specs.declared.Reading.the-variants.{Signal as aSignal};
@@ -81,18 +81,25 @@ fn read_network(d: &[u8]) -> Network
     }
 }
 
-// The number of the first broken rule of the network header and of the body, which starts at byte 52, or 0.
+// The number of the first broken rule of the body, which starts at byte 52, or 0.
+pub(crate) fn body_refusal(d: &[u8]) -> u8
+    requires { ⌜ first (signalLayout (now d)) ≡ 0 ⌝ }
+    ensures { λ r. ⌜ r ≡ first (bodyRules (signalOf (now (d .entry)) .network .«message_type») (bodySize (now (d .entry)))) ⌝ }
+{
+    let end = body_end(d);
+    words::refusal(wire::u8_at(d, 37), &d[pdu::BODY_START..end])
+}
+
+// The number of the first broken rule of the network header, retired types included, and of the body, or 0.
 fn inner_refusal(d: &[u8]) -> u8
     requires { ⌜ first (signalLayout (now d)) ≡ 0 ⌝ }
     ensures { λ r. ⌜ r ≡ first (innerRules (aSignal (signalOf (now (d .entry))) (bodySize (now (d .entry))))) ⌝ }
 {
-    let end = body_end(d);
-    let network = read_network(d);
-    let n = pdu::rules::network_refusal(network);
+    let n = pdu::rules::live_refusal(read_network(d));
     if n != 0 {
         return n;
     }
-    words::refusal(network.message_type, &d[pdu::BODY_START..end])
+    body_refusal(d)
 }
 
 // The number of the first rule from 4 on that is broken, or 0.

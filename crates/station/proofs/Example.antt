@@ -2,7 +2,7 @@
 -- Assumes nothing.
 use mathlib.Core.Path.{refl}
 use Rattle.occupancy.specs.Places.{least, wordOf}
-use Rattle.pdu.specs.Rules.{wrongVersion, wrongSync, accessRules, slotRules, networkRules, bodyRules, innerRules}
+use Rattle.pdu.specs.Rules.{wrongVersion, wrongSync, accessRules, slotRules, networkRules, liveRules, bodyRules, innerRules}
 use Rattle.pdu.specs.Reading.{transmitterOf, signalOf, content, wrongType, wrongLength, wrongFixed, wrongBits, startRules, transmitterLayout}
 use Rattle.pdu.specs.Reading.{signalLayout, readingRules, refusal, reading}
 use Rattle.pdu.specs.Words.{wordAt}
@@ -15,7 +15,7 @@ use Rattle.station.specs.Clock.{atTime, clocked}
 use Rattle.station.specs.Example.{ExampleRuns}
 
 pub runs : ExampleRuns
-unfolding bodySlots bytesOf wordAt wrongVersion wrongSync accessRules slotRules networkRules bodyRules innerRules transmitterOf signalOf content
+unfolding bodySlots bytesOf wordAt wrongVersion wrongSync accessRules slotRules networkRules liveRules bodyRules innerRules transmitterOf signalOf content
     wrongType wrongLength
     wrongFixed wrongBits startRules transmitterLayout signalLayout readingRules refusal reading
     least wordOf fresh made placeOf enter

@@ -13,7 +13,7 @@ use native.Mathlib.Omega.{arith}
 use borrow.Author.Tests.{eqb-true, ltb-true}
 use Rattle.wire.specs.Bytes.{big, Bytes}
 use Rattle.wire.proofs.TableLaws.{both-true}
-use Rattle.pdu.specs.Rules.{wrongVersion, wrongSync, accessRules, slotRules, networkRules, bodyRules, innerRules}
+use Rattle.pdu.specs.Rules.{wrongVersion, wrongSync, accessRules, slotRules, networkRules, liveRules, bodyRules, innerRules}
 use Rattle.pdu.specs.Tables.{bodySlots}
 use Rattle.pdu.specs.Forms.{bytesOf}
 use Rattle.pdu.specs.Reading.{transmitterOf, signalOf, content, wrongType, wrongLength, wrongFixed, wrongBits, startRules, transmitterLayout}
@@ -243,7 +243,7 @@ computed :
 unfolding fair allowed among same said story before after-all sending arriving record-0 record-1 record-2 unit entry-message order
     signal timing start-of zeros offered storeAfter offerRulesOf sent sentOut sendRules replied replyRules arrived isNext countAfter replyAfter
     outputAfter arrivalRules ticked recordOf load unknownKind wrongSize isReply lastOfAll wrongCarried formRules pduRules wrongVersion
-    wrongType wrongLength wrongFixed wrongSync wrongBits networkRules bodyRules readingRules refusal content reading transmitterOf
+    wrongType wrongLength wrongFixed wrongSync wrongBits networkRules liveRules bodyRules readingRules refusal content reading transmitterOf
     signalOf writtenForm inWrittenForm accessRules slotRules innerRules bodySlots bytesOf startRules transmitterLayout signalLayout wordAt
     least wordOf fresh made placeOf enter renew hearTransmitter otherId stationRules labelled wordSaying messageOf afterJ00 afterTiming afterPpli
     hearMessage hearSignal station-step heard atTime clocked

@@ -7,6 +7,7 @@ pub mod RuleLaws
 pub mod Refused
 pub mod CallLaws
 pub mod ExactlyWhen
+pub mod Types
 pub mod Leaves
 pub mod RowLaws
 pub mod LogLaws

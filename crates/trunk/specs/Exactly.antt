@@ -2,16 +2,19 @@
 -- that does not hold, and every other answer is given exactly where all rules hold, with the values that document 01 names.
 use Prim.Native.Nat.{ℕ, _<_, max}
 use mathlib.Core.Path.{_≡_}
-use mathlib.Core.Logic.{_↔_, _≢_}
+use mathlib.Core.Logic.{_↔_, _≢_, _⊎_}
 use mathlib.Core.List.{List, [], _∷_}
 use lib.ListN.{length, drop}
 use Rattle.wire.specs.Bytes.{num}
 use Rattle.wire.specs.Rules.{Met, FirstBroken}
+use Rattle.pdu.specs.Reading.{reading}
+use Rattle.pdu.specs.declared.Signal.{Signal as SignalFields}
+use Rattle.pdu.specs.declared.Reading.the-variants.{Refused as notRead, Signal as aSignal}
 use Rattle.station.specs.Hearing.{heard}
 use Rattle.trunk.specs.Record.{checkedSays, numberOfChecked, sizeOfChecked}
 use Rattle.trunk.specs.Near.{offerSays, sendSays, replySays}
 use Rattle.trunk.specs.Far.{arrivalSays}
-use Rattle.trunk.specs.Plain.{plainLength, plainRowKind, plainOffer, plainSend, plainReply, plainArrival, plainCheck}
+use Rattle.trunk.specs.Plain.{StoreRule, plainLength, plainRowKind, plainOffer, plainSend, plainReply, plainArrival, plainCheck}
 use Rattle.trunk.specs.declared.Checked.{Checked}
 use Rattle.trunk.specs.declared.Checked.the-variants.{Refused as checkRefused, Reply as aReply, Pdu}
 use Rattle.trunk.specs.declared.Near.{Near}
@@ -29,6 +32,15 @@ use Rattle.trunk.specs.declared.Arrival.the-variants.{Refused as arrival
 pub record OfferExactly (near : Near) (store d : List ℕ) (a : Offer) : Type 0 where
   pub refused : (n : ℕ) → (a ≡ offerRefused n) ↔ FirstBroken n (plainOffer near store d)
   pub taken : (i : ℕ) → (a ≡ Taken i) ↔ (Met (plainOffer near store d) × (i ≡ near .accepted))
+
+-- 02, R-4: "Near ends .. now pass on the reader's number", 50 for a retired message; of the types that are read, 23 is left for 6 and 7
+pub record TypesRefused (store d : List ℕ) (a : Offer) : Type 0 where
+  pub retired : StoreRule store → reading d ≡ notRead 50 → a ≡ offerRefused 50
+  pub left :
+      (s : SignalFields) (n : ℕ)
+      → reading d ≡ aSignal s n
+      → a ≡ offerRefused 23
+      → (s .network .«message_type» ≡ 6) ⊎ (s .network .«message_type» ≡ 7)
 
 -- "a send, the size written"
 pub record SendExactly (near : Near) (store : List ℕ) (i room : ℕ) (a : Sent) : Type 0 where

@@ -114,7 +114,7 @@ kindFor Unknown = noKind
 abbrev pub replyKind : ℕ
 replyKind = kindFor Nothing
 
--- what carries a message of this type that has no words: types 3 to 7 are not carried
+-- what carries a message of this type that has no words: the others are not carried
 abbrev pub loadOfType : ℕ → Load
 loadOfType type = cond (eqb type interrogation) Interrogation (cond (eqb type timingReply) TimingReply Unknown)
 

@@ -123,7 +123,7 @@ CarriedRule r =
     × (writtenForm (drop 5 r) ≡ drop 5 r)
     × OfKind (num 1 0 r) (reading (drop 5 r))
 
--- 23: "types 1 to 7 are not carried", by 02, R-1 "only for types 3 to 7"
+-- 23: "types 1 to 7 are not carried", by 02, R-1 "only for types 3 to 7", of which R-4 leaves 6 and 7 to be read
 abbrev pub TypeRule : List ℕ → Type 0
 TypeRule d = (s : SignalFields) (n : ℕ) → reading d ≡ aSignal s n → s .network .«message_type» ≤ 2
 

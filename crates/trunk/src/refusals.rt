@@ -9,7 +9,7 @@ pub(crate) const RECORD_LENGTH: u8 = 21;
 // The carried bytes are not a written PDU of that kind.
 pub(crate) const RECORD_PDU: u8 = 22;
 
-// A Signal of types 1 to 7.
+// A Signal of a message type that no record carries: 6 and 7 are left for it.
 pub(crate) const NOT_CARRIED: u8 = 23;
 
 // Eight PDUs are unacknowledged.

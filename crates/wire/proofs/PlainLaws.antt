@@ -113,4 +113,5 @@ sampled = record {
   bit-over = refl;
   named = refl;
   unnamed = refl;
+  left-out = refl;
 }

@@ -23,6 +23,11 @@ lacks sort ((n given-when broken) ∷ rest) = not (sort n) && lacks sort rest
 abbrev pub numbered : List Refusal → Bool
 numbered rules = lacks (λ n. eqb n 0) rules
 
+-- the same rules without those of this number
+abbrev pub without : ℕ → List Refusal → List Refusal
+without k [] = []
+without k ((n given-when broken) ∷ rest) = cond (eqb n k) (without k rest) ((n given-when broken) ∷ without k rest)
+
 -- what a call says in document 01's numbers: a refusal's number alone, or 0 and the values of its answer
 abbrev pub told : ℕ → List ℕ → List ℕ
 told refused values = cond (eqb refused 0) (0 ∷ values) (refused ∷ [])

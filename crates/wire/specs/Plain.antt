@@ -7,7 +7,7 @@ use mathlib.Core.Logic.{_↔_, _≢_}
 use mathlib.Core.List.{List, [], _∷_, _++_}
 use lib.ListN.{length, getD}
 use Rattle.wire.specs.Bytes.{num, big, row, splice, allZero}
-use Rattle.wire.specs.First.{Refusal, _given-when_, first, numbered, told}
+use Rattle.wire.specs.First.{Refusal, _given-when_, first, numbered, without, told}
 use Rattle.wire.specs.Table.{Slot, keep, only, skip, kept, padding, one, parts, width, counts, read, fill, clear, allFixed, allBlank, sound, Fit}
 
 -- ---- bytes
@@ -97,3 +97,6 @@ pub record Sampled : Type 0 where
   -- refusals of which none, and one, has the number 0
   pub named : numbered ((1 given-when false) ∷ (2 given-when true) ∷ []) ≡ true
   pub unnamed : numbered ((1 given-when false) ∷ (0 given-when true) ∷ []) ≡ false
+  -- refusals of which one is left out
+  pub left-out :
+      without 2 ((1 given-when false) ∷ (2 given-when true) ∷ (3 given-when true) ∷ []) ≡ ((1 given-when false) ∷ (3 given-when true) ∷ [])

@@ -18,12 +18,12 @@ use pdu::Network;
 use pdu::Signal;
 use pdu::refusals;
 
-// The number of the first broken rule of the network header and of a body of n bytes, or 0.
+// The number of the first broken rule of the network header, retired types included, and of a body of n bytes, or 0.
 fn inner_refusal(s: Signal, n: usize) -> u8
     ensures { λ r. ⌜ r ≡ first (innerRules (aSignal s n)) ⌝ }
 {
     let network = s.network;
-    let refused = pdu::rules::network_refusal(network);
+    let refused = pdu::rules::live_refusal(network);
     if refused != 0 {
         return refused;
     }

@@ -1,4 +1,4 @@
--- `content` meets its contract: a taken datagram has the length that its fields need, by its PDU type.
+-- `content` meets its contract: a datagram with its layout has the length that its fields need, by its PDU type.
 -- Assumes nothing.
 use Prim.Native.Nat.{ℕ}
 use mathlib.Core.Path.{_≡_, sym, ap, ap₂, _∙_}
@@ -7,10 +7,10 @@ use mathlib.Core.List.{List}
 use denote.Ref.{now}
 use native.Mathlib.Omega.{arith}
 use Rattle.wire.specs.Bytes.{num}
-use Rattle.pdu.specs.Reading.{refusal}
+use Rattle.pdu.specs.Reading.{Laid}
 use Rattle.pdu.specs.declared.Reading.the-variants.{Transmitter as aTransmitter, Signal as aSignal}
 use Rattle.pdu.proofs.Agreement.{content-transmitter, content-signal}
-use Rattle.pdu.proofs.ReadLaws.{taken-long, taken-transmitter, taken-signal, signal-laid}
+use Rattle.pdu.proofs.ReadLaws.{laid-long, laid-transmitter, laid-signal, signal-laid}
 use Rattle.reader.proofs.content.Statement.{statement}
 use Rattle.reader.proofs.content.Tie as tie
 
@@ -24,23 +24,23 @@ transmitter c = sym (c .before .u8-at .ensures) ∙ c .if1 .taken
 signal : (c : tie.Else1) → num 1 2 (d (c .before)) ≢ 25
 signal c e = c .if1 .left (c .before .u8-at .ensures ∙ e)
 
-none : (c : tie.After-u8-at) → refusal (d c) ≡ 0
-none c = c .before .before .pre
+laid : (c : tie.After-u8-at) → Laid (d c)
+laid c = c .before .before .pre
 
 u8-at-requires : tie.Need-u8-at-requires
-u8-at-requires c κs = omega (arith, taken-long _ (c .before .pre))
+u8-at-requires c κs = omega (arith, laid-long _ (c .before .pre))
 
 fields-requires : tie.Need-fields-requires
-fields-requires c κs = omega (arith, taken-transmitter (d (c .before)) (none (c .before)) (transmitter c))
+fields-requires c κs = omega (arith, laid-transmitter (d (c .before)) (laid (c .before)) (transmitter c))
 
 body-size-requires : tie.Need-body-size-requires
-body-size-requires c κs = taken-signal (d (c .before)) (none (c .before)) (signal c)
+body-size-requires c κs = laid-signal (d (c .before)) (laid (c .before)) (signal c)
 
 fields-requires-2 : tie.Need-fields-requires-2
 fields-requires-2 c κs =
     let past = c .before in
     let held = d (past .before) in
-    omega (arith, signal-laid held (taken-signal held (none (past .before)) (signal past)) .size)
+    omega (arith, signal-laid held (laid-signal held (laid (past .before)) (signal past)) .size)
 
 returns : tie.Need-returns
 returns c =

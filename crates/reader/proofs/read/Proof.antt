@@ -1,4 +1,4 @@
--- `read` meets its contract: a refusal, or what the datagram holds.
+-- `read` meets its contract: a refusal, or what the datagram holds, which has its layout (`taken-laid`).
 -- Assumes nothing.
 use Prim.Native.Nat.{ℕ}
 use mathlib.Core.Path.{_≡_, sym, ap, _∙_}
@@ -7,6 +7,7 @@ use Rattle.pdu.specs.Reading.{reading, readingSays, readSays}
 use Rattle.pdu.specs.declared.Reading.{Reading}
 use Rattle.pdu.specs.declared.Reading.the-variants.{Refused}
 use Rattle.pdu.proofs.Answers.{reading-taken, reading-refused, reading-says}
+use Rattle.pdu.proofs.ReadLaws.{taken-laid}
 use borrow.Author.Needs.{needs}
 use Rattle.reader.proofs.read.Statement.{statement}
 use Rattle.reader.proofs.read.Tie as tie
@@ -24,7 +25,7 @@ returns c =
     says _ (ap Refused answer ∙ sym (reading-refused _ (λ e. c .if1 .taken (answer ∙ e))))
 
 content-requires : tie.Need-content-requires
-content-requires c κs = sym (c .before .reading-refusal .ensures) ∙ c .if1 .left
+content-requires c κs = taken-laid _ (sym (c .before .reading-refusal .ensures) ∙ c .if1 .left)
 
 returns-2 : tie.Need-returns-2
 returns-2 c =

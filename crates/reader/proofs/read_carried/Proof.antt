@@ -7,7 +7,7 @@ use denote.Ref.{now}
 use Rattle.pdu.specs.Reading.{readingSays}
 use Rattle.pdu.specs.Writing.{inWrittenForm, carried}
 use Rattle.pdu.specs.declared.Carried.the-variants.{Pdu}
-use Rattle.pdu.proofs.ReadLaws.{written-taken}
+use Rattle.pdu.proofs.ReadLaws.{written-taken, taken-laid}
 use borrow.Author.Needs.{needs}
 use Rattle.reader.proofs.read_carried.Statement.{statement}
 use Rattle.reader.proofs.read_carried.Tie as tie
@@ -33,7 +33,7 @@ returns c =
     (rw other, rw other)
 
 content-requires : tie.Need-content-requires
-content-requires c κs = written-taken _ (in-form c)
+content-requires c κs = taken-laid _ (written-taken _ (in-form c))
 
 returns-2 : tie.Need-returns-2
 unfolding carried
