@@ -39,6 +39,7 @@ fn station(level: u8, exchanges: Option<u8>) -> Line {
         level,
         net: NET,
         exchanges,
+        limit: None,
     })
 }
 
@@ -99,6 +100,7 @@ const HANDOVER_REPLY: usize = 9;
 const COUNTS: usize = 10;
 const STATION: usize = 11;
 const COUNTED: usize = 12;
+const LIMIT: usize = 13;
 
 /// The sentences that slips break.
 const NUMBER: &str = "the number of a PDU accepted";
@@ -117,7 +119,7 @@ type Slip = (usize, &'static str, &'static str, &'static str);
 /// The same of a whole line.
 type OtherLine = (usize, &'static str, &'static str);
 
-const SLIPS: [Slip; 12] = [
+const SLIPS: [Slip; 13] = [
     (OFFER, "offer 0", "offer 1", NUMBER),
     (SEND, " 1000000000", " 1000000001", RECORD),
     (DELIVERY, " 06", " 05", ORDER),
@@ -130,6 +132,7 @@ const SLIPS: [Slip; 12] = [
     (COUNTS, "counts 2 2 2", "counts 2 1 2", END),
     (STATION, "fine", "coarse", END),
     (COUNTED, "timing 1 0", "timing 1 1", END),
+    (LIMIT, "limit 96", "limit 60", END),
 ];
 
 const OTHER_LINES: [OtherLine; 5] = [

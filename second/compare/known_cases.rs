@@ -25,8 +25,9 @@ pub type Case = (&'static str, fn(&mut Trial));
 
 /// Counts a check for each case.
 pub fn run(report: &mut Report) {
-    let cases: [Case; 11] = [
-        ("last heard at 40: in at 99, removed at 100", absence),
+    let cases: [Case; 12] = [
+        ("last heard at 40: in at 99, removed at 100, by 60", absence),
+        ("the limits 24, 60, 96 and 600, and the usual one", limits),
         (
             "a Transmitter again: what it keeps and what it replaces",
             refreshing,
@@ -49,7 +50,7 @@ pub fn run(report: &mut Report) {
     }
 }
 
-/// A station with what is claimed of it.
+/// A station with what is claimed of it; its limit is 60 seconds where a case makes no other.
 pub struct Trial {
     claim: Claim,
     pub station: Station,
@@ -59,7 +60,7 @@ impl Trial {
     fn new(what: &str) -> Self {
         Trial {
             claim: Claim::new(what),
-            station: Station::new(0, NET, 1).0,
+            station: Station::with_limit(0, NET, 1, 60).0,
         }
     }
 
@@ -124,6 +125,24 @@ fn absence(trial: &mut Trial) {
     trial.clock(98, 36);
     trial.clock(100, 46);
     trial.held(&[]);
+}
+
+/// A unit is in one second before the limit, and removed at it.
+fn limits(trial: &mut Trial) {
+    let usual = (Station::new(0, NET, 1).0, 96);
+    let made = [24, 60, 96, 600].map(|limit| {
+        let (station, _) = Station::with_limit(0, NET, 1, limit);
+        (station, u64::from(limit))
+    });
+    for (station, limit) in made.into_iter().chain([usual]) {
+        trial.station = station;
+        trial.clock(40, 46);
+        trial.transmitter(1, FINE_MODULATION, 40);
+        trial.clock(40 + limit - 1, 46);
+        trial.held(&[0]);
+        trial.clock(40 + limit, 46);
+        trial.held(&[]);
+    }
 }
 
 fn refreshing(trial: &mut Trial) {
@@ -244,15 +263,25 @@ fn order(trial: &mut Trial) {
 }
 
 fn settings(trial: &mut Trial) {
-    let fresh = Station::new(0, 0, 1).0;
-    for (level, net, exchanges) in [(4, 127, 1), (4, 127, 16)] {
-        let (station, answer) = Station::new(level, net, exchanges);
+    let (fresh, _) = Station::new(0, 0, 1);
+    trial.equal((fresh.exchanges, fresh.limit), (1, 96));
+    for (level, net, exchanges, limit) in [(4, 127, 1, 24), (4, 127, 16, 600)] {
+        let (station, answer) = Station::with_limit(level, net, exchanges, limit);
         trial.equal(numbers::number(answer), 0);
-        let made = (station.level, station.net, station.exchanges);
-        trial.equal(made, (level, net, exchanges));
+        trial.equal((station.level, station.net), (level, net));
+        trial.equal((station.exchanges, station.limit), (exchanges, limit));
     }
-    for (level, net, exchanges) in [(5, 0, 1), (0, 128, 1), (4, 127, 0), (4, 127, 17)] {
-        let (station, answer) = Station::new(level, net, exchanges);
+    for (level, net, exchanges, limit) in [
+        (5, 0, 1, 60),
+        (0, 128, 1, 60),
+        (4, 127, 0, 60),
+        (4, 127, 17, 60),
+        (4, 127, 16, 0),
+        (4, 127, 16, 23),
+        (4, 127, 16, 601),
+        (4, 127, 16, u16::MAX),
+    ] {
+        let (station, answer) = Station::with_limit(level, net, exchanges, limit);
         trial.equal(numbers::number(answer), 37);
         trial.equal(&station, &fresh);
     }

@@ -1,6 +1,7 @@
 //! Comparisons with the proved archive and the proved programs, and the second program's checks
 //! on itself.
 
+mod absences;
 mod answers;
 pub mod archive_reading;
 pub mod codec;

@@ -1,5 +1,6 @@
 //! Compares the replay program with the second program's own ends, and holds it to demand 3.
 
+use super::absences::Absences;
 use super::demand3::{self, Fault};
 use super::judge_check;
 use super::known_cases;
@@ -28,7 +29,7 @@ const PROGRESS_STEP: u64 = 100;
 
 /// Answers stand in the order of documents 01 and 02. Left out is 25 to an offer, for which more PDUs
 /// would have to be accepted than a script has. Of the PDUs delivered, the Signals of types 1 and 2
-/// are told apart, and at the end the stations that timing messages made Fine.
+/// are told apart, and at the end the stations that timing messages made Fine, and their limits.
 pub const REPLAY: Format = Format {
     command: "compare-replay",
     option: "--replay",
@@ -61,6 +62,8 @@ pub const REPLAY: Format = Format {
         ("clock", &["36", "46"]),
         ("end", &["counts", "waiting", "coarse", "fine"]),
         ("end", &["timing", "fine by timing", "unit", "bad line"]),
+        ("end", &["limit 24", "limit 60", "limit 96", "limit 600"]),
+        ("end", &["another limit"]),
     ],
     answer,
     law: Some(Law {
@@ -83,6 +86,8 @@ fn answer(line: &str) -> Name {
         ["far", "repeat" | "early", ..] => ("far", words[1]),
         ["state", _, _, _, state, _] => ("end", state),
         ["timing", exchanges, count] if exchanges == count => ("end", "fine by timing"),
+        ["limit", "24" | "60" | "96" | "600"] => ("end", line),
+        ["limit", _] => ("end", "another limit"),
         ["counts" | "timing" | "unit", ..] => ("end", words[0]),
         ["bad", ..] => ("end", "bad line"),
         ["store", _] => ("store", "made"),
@@ -245,12 +250,14 @@ pub fn run(program: &Path, seed: u64, count: u64) -> Result<ExitCode, String> {
     }
     let mut extents = Extents::default();
     let mut offers = Offers::new();
+    let mut absences = Absences::new();
     while extents.all.calls < count {
         let script = scripts::script(seeds.next());
         comparison.compare(&script)?;
         let printed = replay::run(&script);
         extents.add(&script, &printed);
         offers.add(&script, &printed);
+        absences.add(&script);
         let Extent { scripts, calls } = extents.all;
         if scripts % PROGRESS_STEP == 0 {
             eprintln!("compared {scripts} scripts, {calls} calls");
@@ -260,6 +267,7 @@ pub fn run(program: &Path, seed: u64, count: u64) -> Result<ExitCode, String> {
     let least = OFTEN.in_a_run_of(count);
     comparison.report(least, &mut report);
     offers.report(least, &mut report);
+    absences.report(least, &mut report);
     extents.report(&mut report);
     known_cases::run(&mut report);
     judge_check::run(&mut report);

@@ -4,12 +4,18 @@ use crate::hex;
 use crate::trunk::script::BYTES_MAX;
 
 /// Unreadable wherever they stand.
-const BAD_LINES: [&str; 82] = [
+const BAD_LINES: [&str; 88] = [
     "",
     " ",
     "station",
     "station 0",
-    "station 0 0 1 1",
+    "station 0 0 1 24 0",
+    "station 0 0 1 24 ",
+    "station 0 0 1  24",
+    "station 0 0  1 24",
+    "station 0 0 1 -",
+    "station 0 0 1 -1",
+    "station 0 0 1 65536",
     "station - 0",
     "station 0 -1",
     "station 256 0",
@@ -100,8 +106,13 @@ const MISPLACED: [&[&str]; 3] = [
         "far - 0 0",
         "clock 0",
     ],
-    &["station 1 5", "station 1 5 1"],
-    &["station 1 5", "station 1 5 1", "store 1536"],
+    &["station 1 5", "station 1 5 1", "station 1 5 1 96"],
+    &[
+        "station 1 5",
+        "station 1 5 1",
+        "station 1 5 1 96",
+        "store 1536",
+    ],
 ];
 /// What stands before a first line, a second and a later one.
 const BEFORE: [&str; 3] = ["", "station 1 5\n", "station 1 5\nclock 1\n"];
@@ -110,7 +121,7 @@ const AFTER: &str = "\nclock 2\n";
 
 /// Lines with the largest numbers that they may have, and `{}` for the most bytes.
 const AT_LIMITS: &str = "\
-station 255 255 255
+station 255 255 255 65535
 store 4096
 poke 0 {}
 poke 4095 ff
@@ -122,9 +133,9 @@ far {} 4096 4096
 clock 18446744073709551615
 ";
 
-/// First lines alone: the numbers of exchanges at the ends of their range and past them, a line
-/// that leaves it out, and numbers with zeros before them.
-const FIRST_LINES: [&str; 8] = [
+/// First lines alone: the numbers of exchanges and the limits at the ends of their range and past
+/// them, lines that leave them out, and numbers with zeros before them.
+const FIRST_LINES: [&str; 19] = [
     "station 4 127 0",
     "station 4 127 1",
     "station 4 127 16",
@@ -133,6 +144,17 @@ const FIRST_LINES: [&str; 8] = [
     "station 4 127",
     "station 5 0 16",
     "station 004 0127 0000000016",
+    "station 4 127 16 0",
+    "station 4 127 16 23",
+    "station 4 127 16 24",
+    "station 4 127 16 60",
+    "station 4 127 16 96",
+    "station 4 127 16 600",
+    "station 4 127 16 601",
+    "station 4 127 16 65535",
+    "station 4 127 17 96",
+    "station 5 127 16 96",
+    "station 4 127 16 00000000600",
 ];
 
 /// Lengths of a store, for writes up to its end and past it.

@@ -9,7 +9,8 @@ use crate::trunk::near::{self, STORE_SIZE};
 use crate::trunk::record::{self, Kind, ACCEPTED_MAX, HEAD_SIZE, PDU_SIZE_MAX, REPLY_SIZE};
 use crate::trunk::replay::Replay;
 use crate::trunk::script::{Line, Outcome, Settings, BYTES_MAX};
-use crate::trunk::station::{ABSENCE_LIMIT, FIRST_EXCHANGES, LAST_EXCHANGES};
+use crate::trunk::station::{FIRST_EXCHANGES, LAST_EXCHANGES};
+use crate::trunk::station::{FIRST_LIMIT, LAST_LIMIT, USUAL_LIMIT};
 
 /// How many calls a script may have.
 const LENGTHS: [u64; 5] = [10, 50, 200, 500, 1_500];
@@ -316,6 +317,7 @@ impl Draft {
     fn clock(&mut self) -> Line {
         let station = &self.replay.far.station;
         let now = station.clock;
+        let limit = u64::from(station.limit);
         let units: Vec<u64> = station
             .places
             .iter()
@@ -326,10 +328,10 @@ impl Draft {
             0..=2 => return Line::Clock(now.saturating_sub(self.random.within(1, 100))),
             _ if self.traffic.is_crowded() && !self.random.one_in(8) => self.random.below(3),
             3 | 4 if !units.is_empty() => {
-                let edge = self.random.pick(&[ABSENCE_LIMIT - 1, ABSENCE_LIMIT]);
+                let edge = self.random.pick(&[limit - 1, limit]);
                 return Line::Clock(self.random.pick(&units).saturating_add(edge));
             }
-            5 => self.random.within(ABSENCE_LIMIT - 10, ABSENCE_LIMIT + 10),
+            5 => self.random.within(limit - 10, limit + 10),
             6 if self.random.one_in(16) => self.random.next(),
             _ => self.random.within(0, 8),
         };
@@ -344,7 +346,11 @@ fn settings(random: &mut Random) -> Settings {
         level: random.pick(&[LAST_TSA_LEVEL, any_level]),
         net: random.within(0, LAST_NET.into()) as u8,
         exchanges: exchanges(random),
+        limit: None,
     };
+    if settings.exchanges.is_some() {
+        settings.limit = limit(random);
+    }
     match random.below(32) {
         0 => settings.level = LAST_TSA_LEVEL + 1,
         1 => settings.net = LAST_NET + 1,
@@ -353,6 +359,10 @@ fn settings(random: &mut Random) -> Settings {
             settings.level = random.next() as u8;
             settings.net = random.next() as u8;
             settings.exchanges = Some(random.next() as u8);
+        }
+        4 if settings.exchanges.is_some() => {
+            let outside = [0, FIRST_LIMIT - 1, LAST_LIMIT + 1, u16::MAX];
+            settings.limit = Some(random.pick(&outside));
         }
         _ => {}
     }
@@ -365,6 +375,16 @@ fn exchanges(random: &mut Random) -> Option<u8> {
         0 => None,
         1..=4 => Some(random.within(FIRST_EXCHANGES.into(), 3) as u8),
         _ => Some(random.within(FIRST_EXCHANGES.into(), LAST_EXCHANGES.into()) as u8),
+    }
+}
+
+/// An absence limit, the ends of the range, 60 and the usual one more often; now and then it is left
+/// out.
+fn limit(random: &mut Random) -> Option<u16> {
+    match random.below(8) {
+        0 => None,
+        1 | 2 => Some(random.within(FIRST_LIMIT.into(), LAST_LIMIT.into()) as u16),
+        _ => Some(random.pick(&[FIRST_LIMIT, 60, USUAL_LIMIT, LAST_LIMIT])),
     }
 }
 

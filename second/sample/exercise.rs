@@ -41,6 +41,7 @@ pub fn script() -> String {
         level: LEVEL,
         net: NET,
         exchanges: Some(EXCHANGES),
+        limit: None,
     };
     exercise.call(&Line::Station(station));
     exercise.run(&traffic());

@@ -60,6 +60,9 @@ impl Story {
             ["timing", exchanges, count] => self.end.push(format!(
                 "Of the {exchanges} timing messages that make it fine it counted {count}."
             )),
+            ["limit", seconds] => self.end.push(format!(
+                "A unit is removed after {seconds} seconds without a position report."
+            )),
             ["unit", ..] => {}
             ["counts", accepted, acknowledged, delivered] => self.end.push(format!(
                 "Offered {accepted}, put out {delivered}, repeated {}, acknowledged {acknowledged}.",
@@ -84,10 +87,10 @@ impl Story {
             self.repeats,
             self.early
         );
-        let [counts, state, timing] = &self.end[..] else {
+        let [counts, state, timing, limit] = &self.end[..] else {
             return None;
         };
-        Some(text + &format!("{state}\n{timing}\n{counts}\n"))
+        Some(text + &format!("{state}\n{timing}\n{limit}\n{counts}\n"))
     }
 }
 

@@ -125,6 +125,7 @@ impl Display for End<'_> {
             net,
             exchanges,
             count,
+            limit,
             id,
             state,
             clock,
@@ -135,6 +136,7 @@ impl Display for End<'_> {
         let state = state_word(*state);
         writeln!(f, "state {level} {net} {id} {state} {clock}")?;
         writeln!(f, "timing {exchanges} {count}")?;
+        writeln!(f, "limit {limit}")?;
         for (place, unit) in places.iter().enumerate() {
             if let Some(unit) = unit {
                 let (key, is_in) = (unit.key, u8::from(unit.is_in));

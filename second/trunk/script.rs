@@ -17,22 +17,31 @@ pub struct Settings {
     pub net: u8,
     /// One where it is left out.
     pub exchanges: Option<u8>,
+    /// Left out where the exchanges are; the maker without a limit makes the station then.
+    pub limit: Option<u16>,
 }
 
 impl Settings {
     /// The station that they make.
     pub fn station(self) -> (Station, Result<(), Refusal>) {
-        Station::new(self.level, self.net, self.exchanges.unwrap_or(1))
+        let (level, net, exchanges) = (self.level, self.net, self.exchanges.unwrap_or(1));
+        match self.limit {
+            Some(limit) => Station::with_limit(level, net, exchanges, limit),
+            None => Station::new(level, net, exchanges),
+        }
     }
 }
 
 impl Display for Settings {
     fn fmt(&self, f: &mut Formatter) -> fmt::Result {
         write!(f, "{} {}", self.level, self.net)?;
-        match self.exchanges {
-            Some(exchanges) => write!(f, " {exchanges}"),
-            None => Ok(()),
+        if let Some(exchanges) = self.exchanges {
+            write!(f, " {exchanges}")?;
         }
+        if let Some(limit) = self.limit {
+            write!(f, " {limit}")?;
+        }
+        Ok(())
     }
 }
 
@@ -71,11 +80,19 @@ impl Line {
                 level: number(level)?,
                 net: number(net)?,
                 exchanges: None,
+                limit: None,
             }),
             ["station", level, net, exchanges] => Line::Station(Settings {
                 level: number(level)?,
                 net: number(net)?,
                 exchanges: Some(number(exchanges)?),
+                limit: None,
+            }),
+            ["station", level, net, exchanges, limit] => Line::Station(Settings {
+                level: number(level)?,
+                net: number(net)?,
+                exchanges: Some(number(exchanges)?),
+                limit: Some(number(limit)?),
             }),
             ["store", bytes] => Line::Store(size(bytes)?),
             ["poke", offset, poked] => Line::Poke {

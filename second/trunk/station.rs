@@ -1,5 +1,5 @@
-//! The station (document 01, "The station"; document 02, R-1): the net-entry state of one station,
-//! which hears datagrams and the clock.
+//! The station (document 01, "The station"; document 02, R-1 and R-12): the net-entry state of one
+//! station, which hears datagrams and the clock.
 
 use super::word::Word;
 use crate::numbers::{require, Refusal};
@@ -8,8 +8,11 @@ use crate::pdu::{Modulation, Pdu, Signal, Transmitter};
 use crate::pdu::{FINE, LAST_NET, LAST_TSA_LEVEL, RTT, RTT_REPLY};
 
 pub const PLACES: usize = 16;
-/// A unit is removed after so many seconds without a PPLI.
-pub const ABSENCE_LIMIT: u64 = 60;
+/// A unit is removed after so many seconds without a PPLI: a station is made with a limit from the
+/// first to the last of these, or with the usual one.
+pub const FIRST_LIMIT: u16 = 24;
+pub const LAST_LIMIT: u16 = 600;
+pub const USUAL_LIMIT: u16 = 96;
 /// A station and a sender of this level leave the station Coarse, and count timing messages.
 pub const COARSE_ENTRY_LEVEL: u8 = 4;
 /// A station is made with a number of exchanges from the first to the last of these.
@@ -54,6 +57,8 @@ pub struct Station {
     /// So many timing messages make a Coarse station Fine; so many were counted.
     pub exchanges: u8,
     pub count: u8,
+    /// So many seconds without a PPLI remove a unit.
+    pub limit: u16,
     pub id: u32,
     pub state: State,
     pub clock: u64,
@@ -113,18 +118,32 @@ impl Message {
 }
 
 impl Station {
-    /// A fresh station. After refusal 37 it is one of level 0, net 0 and one exchange.
+    /// A fresh station of the usual limit.
     pub fn new(level: u8, net: u8, exchanges: u8) -> (Self, Result<(), Refusal>) {
+        Station::with_limit(level, net, exchanges, USUAL_LIMIT)
+    }
+
+    /// A fresh station. After refusal 37 it is one of level 0, net 0, one exchange and the usual
+    /// limit.
+    pub fn with_limit(
+        level: u8,
+        net: u8,
+        exchanges: u8,
+        limit: u16,
+    ) -> (Self, Result<(), Refusal>) {
         let holds = level <= LAST_TSA_LEVEL
             && net <= LAST_NET
-            && (FIRST_EXCHANGES..=LAST_EXCHANGES).contains(&exchanges);
-        let settings = (level, net, exchanges);
-        let (level, net, exchanges) = if holds { settings } else { (0, 0, 1) };
+            && (FIRST_EXCHANGES..=LAST_EXCHANGES).contains(&exchanges)
+            && (FIRST_LIMIT..=LAST_LIMIT).contains(&limit);
+        let settings = (level, net, exchanges, limit);
+        let least = (0, 0, 1, USUAL_LIMIT);
+        let (level, net, exchanges, limit) = if holds { settings } else { least };
         let station = Station {
             level,
             net,
             exchanges,
             count: 0,
+            limit,
             id: NO_ID,
             state: State::Waiting,
             clock: 0,
@@ -226,8 +245,9 @@ impl Station {
     pub fn set_clock(&mut self, second: u64) -> Answer {
         require(second >= self.clock, Refusal::ClockBack)?;
         self.clock = second;
+        let limit = u64::from(self.limit);
         for place in &mut self.places {
-            place.take_if(|unit| second - unit.last >= ABSENCE_LIMIT);
+            place.take_if(|unit| second - unit.last >= limit);
         }
         Ok(Event::Clock)
     }

@@ -6,7 +6,7 @@ use Rattle.occupancy.specs.Places.{least, count, wordOf}
 use Rattle.pdu.specs.Rules.{wrongVersion, wrongSync, accessRules, slotRules, networkRules, liveRules, bodyRules, innerRules}
 use Rattle.pdu.specs.Reading.{transmitterOf, signalOf, content, wrongType, wrongLength, wrongFixed, wrongBits, startRules, transmitterLayout}
 use Rattle.pdu.specs.Reading.{signalLayout, readingRules, refusal, reading}
-use Rattle.station.specs.Units.{fresh, placeOf}
+use Rattle.station.specs.Units.{fresh, made, placeOf}
 use Rattle.station.specs.Hearing.{enter, renew, hearTransmitter, step, heard}
 use Rattle.station.specs.Clock.{atTime, clocked}
 use Rattle.edges.specs.Cases.{all-hold, starred-cases}
@@ -14,5 +14,5 @@ use Rattle.edges.specs.Cases.{all-hold, starred-cases}
 pub starred : all-hold starred-cases ≡ true
 unfolding wrongVersion wrongSync accessRules slotRules networkRules liveRules bodyRules innerRules transmitterOf signalOf content wrongType wrongLength
     wrongFixed wrongBits startRules transmitterLayout signalLayout readingRules refusal reading
-    fresh placeOf enter renew hearTransmitter step heard atTime clocked least count wordOf
+    fresh made placeOf enter renew hearTransmitter step heard atTime clocked least count wordOf
 starred = refl

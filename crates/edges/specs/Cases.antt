@@ -7,7 +7,7 @@ use lib.Dec.{eqb}
 use Rattle.wire.specs.Bytes.{big}
 use Rattle.pdu.specs.Forms.{sizeOf}
 use Rattle.pdu.specs.Reading.{reading, numberOf}
-use Rattle.station.specs.Units.{settingsOf, fresh, unitsHeld}
+use Rattle.station.specs.Units.{settingsOf, made, unitsHeld}
 use Rattle.station.specs.Runs.{datagram, time, after}
 use Rattle.pdu.specs.declared.Reading.{Reading}
 use Rattle.pdu.specs.declared.Reading.the-variants.{Refused, Transmitter, Signal}
@@ -43,8 +43,8 @@ aTransmitter =
 pub data Case : Type 0 where
   answers : List ℕ → ℕ → ℕ → Case
   slot-of : List ℕ → ℕ → ℕ → Case
-  -- a unit last heard at this second, a clock, and the number of units held then
-  held-at : ℕ → ℕ → ℕ → Case
+  -- a station made with this limit, a unit last heard at this second, a clock, and the number of units held then
+  held-at : ℕ → ℕ → ℕ → ℕ → Case
 
 -- whether reading answered a Signal with the epoch and slot given
 abbrev pub slotIs : Reading → ℕ → ℕ → Bool
@@ -56,8 +56,8 @@ slotIs (Signal s n) epoch slot = eqb (s .network .epoch) epoch && eqb (s .networ
 abbrev pub holds : Case → Bool
 holds (answers d number size) = eqb (numberOf (reading d)) number && eqb (sizeOf (reading d)) size
 holds (slot-of d epoch slot) = slotIs (reading d) epoch slot
-holds (held-at last t count) =
-    eqb (unitsHeld (after (fresh (settingsOf 0 0 1)) (time last ∷ datagram aTransmitter ∷ time t ∷ []))) count
+holds (held-at limit last t count) =
+    eqb (unitsHeld (after (made (settingsOf 0 0 1 limit) .station) (time last ∷ datagram aTransmitter ∷ time t ∷ []))) count
 
 -- whether every row holds
 abbrev pub all-hold : List Case → Bool
@@ -82,6 +82,6 @@ starred-cases =
     ∷ answers (signal 60 26 0 128) 133 0  -- TSEC 128 and 254
     ∷ answers (signal 60 26 0 254) 133 0
     ∷ answers aTransmitter 0 112  -- the Transmitter of the next two rows is taken
-    ∷ held-at 40 99 1  -- last heard at 40: in at 99
-    ∷ held-at 40 100 0  -- removed at 100
+    ∷ held-at 60 40 99 1  -- last heard at 40: in at 99, by a station made with 60 (02, R-12)
+    ∷ held-at 60 40 100 0  -- removed at 100
     ∷ []

@@ -5,6 +5,7 @@ use script::Call;
 use text::ROOM;
 use text::show;
 use trunk::Far;
+use trunk::MadeFar;
 use trunk::Near;
 use trunk::far_end;
 use trunk::near_end;
@@ -27,7 +28,7 @@ pub struct State {
     pub good: bool,
 }
 
-// The state before any line: fresh ends, the far station of level 0, net 0 and one exchange.
+// The state before any line: fresh ends, the far station of level 0, net 0, one exchange and the usual limit.
 pub fn start() -> State {
     let made = far_end::new(0, 0, 1);
     let far = made.far;
@@ -44,8 +45,8 @@ pub fn start() -> State {
     }
 }
 
-fn make_station(level: u8, net: u8, exchanges: u8) -> Far {
-    let made = far_end::new(level, net, exchanges);
+// The far end that a maker gave, its answer shown.
+fn show_made(made: MadeFar) -> Far {
     show::line(b"station", made.answer as u64);
     made.far
 }
@@ -152,7 +153,13 @@ fn run_far(far: Far, call: Call, given: &[u8; ROOM]) -> Far {
             level,
             net,
             exchanges,
-        } => make_station(level, net, exchanges),
+        } => show_made(far_end::new(level, net, exchanges)),
+        Call::Limited {
+            level,
+            net,
+            exchanges,
+            limit,
+        } => show_made(far_end::with_limit(level, net, exchanges, limit)),
         Call::Far {
             size,
             room,

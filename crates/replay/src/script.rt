@@ -3,11 +3,18 @@ use text::ROOM;
 
 // A call. Its bytes stand at the start of a buffer; here is how many.
 pub enum Call {
-    // `station LEVEL NET` or `station LEVEL NET EXCHANGES`: makes the far end's station.
+    // `station LEVEL NET` or `station LEVEL NET EXCHANGES`: makes the far end's station, with the usual limit.
     Station {
         level: u8,
         net: u8,
         exchanges: u8,
+    },
+    // `station LEVEL NET EXCHANGES LIMIT`: the same with this absence limit.
+    Limited {
+        level: u8,
+        net: u8,
+        exchanges: u8,
+        limit: u16,
     },
     // `store BYTES`: the lent store's length.
     Store(usize),
@@ -66,13 +73,36 @@ fn read_settings(words: &[u8]) -> Call {
     }
 }
 
+// `LEVEL NET EXCHANGES LIMIT`; all behind NET is given too.
+fn read_limited(words: &[u8], others: &[u8]) -> Call {
+    let level = text::decimal(text::first_word(words), u8::MAX as u64);
+    let net = text::decimal(text::first_word(text::other_words(words)), u8::MAX as u64);
+    let timed = text::decimals(others, u8::MAX as u64, u16::MAX as u64);
+    if wire::both(wire::both(level.good, net.good), timed.good) {
+        Call::Limited {
+            level: level.value as u8,
+            net: net.value as u8,
+            exchanges: timed.first as u8,
+            limit: timed.second as u16,
+        }
+    } else {
+        Call::Bad
+    }
+}
+
 // Whether there is a space behind the first word.
 fn has_more(words: &[u8]) -> bool {
     text::find(words, 0, b' ') < words.len()
 }
 
+// By how many numbers there are.
 fn read_station(words: &[u8]) -> Call {
-    if has_more(text::other_words(words)) {
+    let behind_level = text::other_words(words);
+    let behind_net = text::other_words(behind_level);
+    if has_more(behind_net) {
+        return read_limited(words, behind_net);
+    }
+    if has_more(behind_level) {
         return read_settings(words);
     }
     read_level_and_net(words)
@@ -202,6 +232,12 @@ pub fn in_place(call: Call, before: u64, store: usize) -> bool {
             level: _,
             net: _,
             exchanges: _,
+        } => before == 0,
+        Call::Limited {
+            level: _,
+            net: _,
+            exchanges: _,
+            limit: _,
         } => before == 0,
         Call::Store(_) => before == 1,
         Call::Poke { offset, size } => wire::both(0 < before, fits(offset, size, store)),

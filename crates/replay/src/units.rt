@@ -47,6 +47,12 @@ fn show_timing(s: Station) {
     show::last(station::count_of(s) as u64);
 }
 
+// `limit SECONDS`
+fn show_limit(s: Station) {
+    show::text(b"limit");
+    show::last(station::limit_of(s) as u64);
+}
+
 // 1 for true and 0 for false.
 fn flag(b: bool) -> u64 {
     if b { 1 } else { 0 }
@@ -87,6 +93,7 @@ fn show_ends(near: Near, far: Far) {
     show_counts(near, far);
     show_station(station);
     show_timing(station);
+    show_limit(station);
     show_places(station);
 }
 

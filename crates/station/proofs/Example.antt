@@ -1,4 +1,4 @@
--- The two runs of the example end as it says: the checker computes them.
+-- The runs of the example end as it says: the checker computes them.
 -- Assumes nothing.
 use mathlib.Core.Path.{refl}
 use Rattle.occupancy.specs.Places.{least, wordOf}
@@ -29,4 +29,5 @@ runs = record {
   third-answers = refl;
   third-state = refl;
   third-count = refl;
+  fourth-answers = refl;
 }

@@ -85,7 +85,7 @@ announced i key s sized c = go (only-by-rules s sized c)
 
 pub heard-first : (given : Settings) (calls : List Call) → HeardFirst (made given .station) calls
 unfolding fresh
-heard-first given calls = of-made (λ s. HeardFirst s calls) (λ settings some. from-fresh settings) given
+heard-first given calls = of-made (λ s. HeardFirst s calls) (λ settings fit. from-fresh settings) given
   where
     from-fresh : (settings : Settings) → HeardFirst (fresh settings) calls
     from-fresh settings i h =

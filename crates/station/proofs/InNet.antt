@@ -17,7 +17,7 @@ use Rattle.station.specs.Hearing.{answering, signalRules, afterJ00, afte
 use Rattle.station.specs.Runs.{Call, called, after}
 use Rattle.station.specs.Table.{Joined, Counted, Unchanged, unread, no-room, stranger, other-net, other-id, not-fine, not-in, passed}
 use Rattle.station.specs.Table.{uncounted, asked, back, Table, nothing, entered, again, joined, positioned, counted, ticked}
-use Rattle.station.specs.Claims.{Joins, Answered42, Some, here, later, JoinsFine, Answered, Counts, Answered47, times, InNet}
+use Rattle.station.specs.Claims.{Joins, Answered42, Some, here, later, JoinsFine, Answered, Counts, Answered47, times, InNet, InRange}
 use Rattle.station.specs.declared.State.{State}
 use Rattle.station.specs.declared.State.the-variants.{Waiting, Coarse, Fine}
 use Rattle.station.specs.declared.Settings.{Settings}
@@ -392,8 +392,8 @@ pub in-net-exactly-when : (given : Settings) (calls : List Call) → InNet (made
 unfolding fresh
 in-net-exactly-when given calls = of-made (λ s. InNet s calls) from-fresh given
   where
-    from-fresh : (settings : Settings) → 1 ≤ settings .exchanges → InNet (fresh settings) calls
-    from-fresh settings some =
+    from-fresh : (settings : Settings) → InRange settings → InNet (fresh settings) calls
+    from-fresh settings fit =
         in-net-from (fresh settings) refl refl
-        (record { some = some; waiting = λ q. refl; coarse = λ q. absurd (coarse≢waiting q refl) })
+        (record { some = fit .one-exchange; waiting = λ q. refl; coarse = λ q. absurd (coarse≢waiting q refl) })
         calls

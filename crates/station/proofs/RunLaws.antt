@@ -1,7 +1,7 @@
 -- Lists of calls, by induction: what each call keeps, the list keeps; what is so afterwards was so before, or some call made it so. Each law
 -- asks for one call only, and hands on that a call keeps the sixteen places.
 -- Assumes nothing.
-use Prim.Native.Nat.{ℕ, _≤_}
+use Prim.Native.Nat.{ℕ}
 use mathlib.Core.Path.{_≡_, refl, _∙_, ap}
 use mathlib.Core.Bool.{Bool, true, false, cond, _||_, true≢false}
 use mathlib.Core.List.{List, [], _∷_}
@@ -10,12 +10,12 @@ use lib.ListN.{length}
 use lib.Dec.{ltb}
 use borrow.Author.Tests.{ltb-false}
 use native.Mathlib.Omega.{arith}
-use Rattle.station.specs.Numbers.{lastLevel, lastNet, fewestExchanges, mostExchanges}
+use Rattle.station.specs.Numbers.{lastLevel, lastNet, fewestExchanges, mostExchanges, shortestLimit, longestLimit}
 use Rattle.station.specs.Units.{fresh, wrongSettings, leastSettings, made}
 use Rattle.station.specs.Plain.{Sized}
 use Rattle.station.specs.Runs.{Call, called, after}
 use Rattle.station.specs.Table.{Table, nothing, entered, again, joined, positioned, counted, ticked}
-use Rattle.station.specs.Claims.{Some, here, later}
+use Rattle.station.specs.Claims.{Some, here, later, InRange}
 use Rattle.station.specs.declared.Settings.{Settings}
 use Rattle.station.specs.declared.Own.{Own}
 use Rattle.station.specs.declared.Station.{Station}
@@ -27,27 +27,53 @@ neither-of : (a b : Bool) → (a || b) ≡ false → (a ≡ false) × (b ≡ fal
 neither-of true b e = absurd (true≢false e)
 neither-of false b e = (refl, e)
 
--- what holds of every fresh station holds of every station that the maker gives
+-- settings that are not refused are in range
+in-range : (given : Settings) → wrongSettings given ≡ false → InRange given
+in-range given e =
+    let high = ltb lastLevel (given .level) in
+    let net = ltb lastNet (given .net) in
+    let few = ltb (given .exchanges) fewestExchanges in
+    let many = ltb mostExchanges (given .exchanges) in
+    let short = ltb (given .limit) shortestLimit in
+    let long = ltb longestLimit (given .limit) in
+    let all = neither-of (high || net || (few || many)) (short || long) e in
+    let first = neither-of (high || net) (few || many) (all .0) in
+    let place = neither-of high net (first .0) in
+    let timing = neither-of few many (first .1) in
+    let absence = neither-of short long (all .1) in
+    record {
+      level = ltb-false _ _ (place .0);
+      net = ltb-false _ _ (place .1);
+      one-exchange = ltb-false _ _ (timing .0);
+      exchanges = ltb-false _ _ (timing .1);
+      shortest = ltb-false _ _ (absence .0);
+      longest = ltb-false _ _ (absence .1);
+    }
+
+-- so are those of the station that a refusal holds
+least-in-range : InRange leastSettings
+least-in-range = record {
+  level = omega arith;
+  net = omega arith;
+  one-exchange = omega arith;
+  exchanges = omega arith;
+  shortest = omega arith;
+  longest = omega arith;
+}
+
+-- what holds of every fresh station with settings in range holds of every station that a maker gives
 pub of-made : (Q : Station → Type 0)
-    → ((settings : Settings) → 1 ≤ settings .exchanges → Q (fresh settings))
+    → ((settings : Settings) → InRange settings → Q (fresh settings))
     → (given : Settings)
     → Q (made given .station)
 unfolding made
 of-made Q f given = go (wrongSettings given) refl
   where
-    -- settings that are taken have an exchange
-    some : wrongSettings given ≡ false → 1 ≤ given .exchanges
-    some e =
-        let place = ltb lastLevel (given .level) || ltb lastNet (given .net) in
-        let few = ltb (given .exchanges) fewestExchanges in
-        let many = ltb mostExchanges (given .exchanges) in
-        ltb-false (given .exchanges) fewestExchanges (neither-of few many (neither-of place (few || many) e .1) .0)
-
     go : (b : Bool)
         → wrongSettings given ≡ b
         → Q (cond {A = Made} b (record { station = fresh leastSettings; answer = 37 }) (record { station = fresh given; answer = 0 }) .station)
-    go true e = f leastSettings (omega arith)
-    go false e = f given (some e)
+    go true e = f leastSettings least-in-range
+    go false e = f given (in-range given e)
 
 -- a call keeps the sixteen places
 pub sized-after : (s : Station) → Sized s → (c : Call) → Sized (called s c .station)

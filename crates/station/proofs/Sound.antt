@@ -15,7 +15,7 @@ use Rattle.station.specs.Units.{exchangesOf, countOf, clockOf, keyOf, bl
 use Rattle.station.specs.Plain.{Sized, NoneBeyond, HeldAt, Stranger}
 use Rattle.station.specs.Runs.{Call, called, after}
 use Rattle.station.specs.Table.{SameElse, Joined, Counted, Table, nothing, entered, again, joined, positioned, counted, ticked}
-use Rattle.station.specs.Claims.{Present, Sound}
+use Rattle.station.specs.Claims.{Present, InRange, Sound}
 use Rattle.station.specs.declared.State.the-variants.{Coarse, Fine}
 use Rattle.station.specs.declared.Settings.{Settings}
 use Rattle.station.specs.declared.Standing.{Standing}
@@ -25,16 +25,17 @@ use Rattle.station.specs.declared.Station.{Station}
 use Rattle.station.proofs.Table.{only-by-rules}
 use Rattle.station.proofs.Changes.{same-or-not, less-or-not, same-clock}
 use Rattle.station.proofs.Ways.{Ways, to-coarse, as-it-was, to-fine, ways}
-use Rattle.station.proofs.RunLaws.{of-made, settings-kept, kept-by-all}
+use Rattle.station.proofs.RunLaws.{of-made, kept-by-all}
 use Rattle.station.proofs.HeardFirst.{nobody, key-kept}
 
 -- ---- a fresh station
 
-fresh-sound : (settings : Settings) → Sound (fresh settings)
+fresh-sound : (settings : Settings) → InRange settings → Sound (fresh settings)
 unfolding fresh
-fresh-sound settings =
+fresh-sound settings fit =
     let none = nobody (fresh settings) refl in
     record {
+      settings = fit;
       sized = refl;
       word = pow-pos places;
       distinct = λ i j h k e. absurd (none i h);
@@ -48,13 +49,24 @@ fresh-sound settings =
 abbrev Counting : Own → Type 0
 Counting own = own .standing .state ≡ Coarse → own .standing .count < own .settings .exchanges
 
+-- a unit is present by a station's own limit and clock
+abbrev PresentBy : Own → Unit → Type 0
+PresentBy own u = Present (own .settings .limit) (own .clock) u
+
 -- every unit that is held is present
 abbrev AllPresent : Station → Type 0
-AllPresent s = (i : ℕ) → HeldAt s i → Present (clockOf s) (unitAt s i)
+AllPresent s = (i : ℕ) → HeldAt s i → PresentBy (s .own) (unitAt s i)
 
 -- no two held places have the same key
 abbrev Distinct : Station → Type 0
 Distinct s = (i j : ℕ) → HeldAt s i → HeldAt s j → unitAt s i .key ≡ unitAt s j .key → i ≡ j
+
+-- where the own fields are as they were, so are the settings; and where these are, so is the limit
+same-settings : {own own′ : Own} → own′ ≡ own → own′ .settings ≡ own .settings
+same-settings e = ap (λ (o : Own). o .settings) e
+
+same-limit : {g g′ : Settings} → g′ ≡ g → g′ .limit ≡ g .limit
+same-limit e = ap (λ (g : Settings). g .limit) e
 
 -- where the word is as it was, so is which places are held
 held-before : (s s′ : Station) → s′ .used ≡ s .used → (i : ℕ) → HeldAt s′ i → HeldAt s i
@@ -67,13 +79,13 @@ module _ (s s′ : Station) (k : ℕ) (same : SameElse k s s′) (sound : Sound 
   was-held i q h = record { place = h .place; taken = sym (same .word i q) ∙ h .taken }
 
   -- all are present where that unit is
-  each-present : clockOf s′ ≡ clockOf s → Present (clockOf s′) (unitAt s′ k) → AllPresent s′
-  each-present now new i h =
+  each-present : s′ .own ≡ s .own → PresentBy (s′ .own) (unitAt s′ k) → AllPresent s′
+  each-present own new i h =
       ⊎-elim
-      (λ (q : i ≡ k). subst (λ (j : ℕ). Present (clockOf s′) (unitAt s′ j)) (sym q) new)
+      (λ (q : i ≡ k). subst (λ (j : ℕ). PresentBy (s′ .own) (unitAt s′ j)) (sym q) new)
       (λ q.
-      subst (λ (u : Unit). Present (clockOf s′) u) (sym (same .entry i q))
-      (subst (λ (t : ℕ). Present t (unitAt s i)) (sym now) (sound .units i (was-held i q h))))
+      subst (λ (u : Unit). PresentBy (s′ .own) u) (sym (same .entry i q))
+      (subst (λ (o : Own). PresentBy o (unitAt s i)) (sym own) (sound .units i (was-held i q h))))
       (same-or-not i k)
 
   -- a new entry's key is that of no other place
@@ -102,56 +114,66 @@ module _ (s s′ : Station) (k : ℕ) (same : SameElse k s s′) (sound : Sound 
   renewed-sound : s′ .own ≡ s .own
       → s′ .used ≡ s .used
       → unitAt s′ k .key ≡ unitAt s k .key
-      → Present (clockOf s′) (unitAt s′ k)
+      → PresentBy (s′ .own) (unitAt s′ k)
       → Sound s′
   renewed-sound own word key new =
-      let now = same-clock own in
       let was = held-before s s′ word in
       let keys = key-kept s s′ k same key in
       record {
+        settings = subst InRange (sym (same-settings own)) (sound .settings);
         sized = same .size ∙ sound .sized;
         word = subst (λ (w : ℕ). w < 2 ^ places) (sym word) (sound .word);
         distinct = λ i j h g f. sound .distinct i j (was i h) (was j g) (sym (keys i) ∙ f ∙ keys j);
-        units = each-present now new;
+        units = each-present own new;
         counting = subst Counting (sym own) (sound .counting);
       }
 
 -- a call that leaves the entries as they were and takes no place
 same-entries : (s s′ : Station)
     → Sound s
+    → s′ .own .settings ≡ s .own .settings
     → s′ .units ≡ s .units
     → NoneBeyond s′
     → (was : (i : ℕ) → HeldAt s′ i → HeldAt s i)
-    → ((i : ℕ) → HeldAt s′ i → Present (clockOf s′) (unitAt s i))
+    → ((i : ℕ) → HeldAt s′ i → PresentBy (s′ .own) (unitAt s i))
     → Counting (s′ .own)
     → Sound s′
-same-entries s s′ sound entries word was present counting =
+same-entries s s′ sound settings entries word was present counting =
     let unit : (i : ℕ) → unitAt s′ i ≡ unitAt s i = (λ i. ap (λ (us : List Unit). getD us i blank) entries) in
     let key : (i : ℕ) → unitAt s′ i .key ≡ unitAt s i .key = (λ i. ap (λ (u : Unit). u .key) (unit i)) in
     record {
+      settings = subst InRange (sym settings) (sound .settings);
       sized = ap length entries ∙ sound .sized;
       word = word;
       distinct = λ i j h g f. sound .distinct i j (was i h) (was j g) (sym (key i) ∙ f ∙ key j);
-      units = λ i h. subst (λ (u : Unit). Present (clockOf s′) u) (sym (unit i)) (present i h);
+      units = λ i h. subst (λ (u : Unit). PresentBy (s′ .own) u) (sym (unit i)) (present i h);
       counting = counting;
     }
 
 -- a call that leaves the places, the entries and the second as they were
 same-places : (s s′ : Station)
     → Sound s
+    → s′ .own .settings ≡ s .own .settings
     → s′ .used ≡ s .used
     → s′ .units ≡ s .units
     → clockOf s′ ≡ clockOf s
     → Counting (s′ .own)
     → Sound s′
-same-places s s′ sound word entries clock counting =
+same-places s s′ sound settings word entries clock counting =
     let was = held-before s s′ word in
-    same-entries s s′ sound entries (subst (λ (w : ℕ). w < 2 ^ places) (sym word) (sound .word)) was
-    (λ i h. subst (λ (t : ℕ). Present t (unitAt s i)) (sym clock) (sound .units i (was i h)))
+    let limit = same-limit settings in
+    same-entries s s′ sound settings entries (subst (λ (w : ℕ). w < 2 ^ places) (sym word) (sound .word)) was
+    (λ i h.
+    let then = sound .units i (was i h) in
+    record {
+      heard = omega (arith, clock, then .heard);
+      present = omega (arith, clock, limit, then .present);
+      inside = then .inside;
+    })
     counting
 
-keeps : (s : Station) → Sized s → (c : Call) → 1 ≤ exchangesOf s → Sound s → Sound (called s c .station)
-keeps s sized c some sound = go (only-by-rules s sized c)
+keeps : (s : Station) → Sized s → (c : Call) → Sound s → Sound (called s c .station)
+keeps s sized c sound = go (only-by-rules s sized c)
   where
     -- a J0.0 leaves it Coarse only where the count is zero, or where it was Coarse
     joined-counting : {u : Unit} {s′ : Station} → Joined s u s′ → Counting (s′ .own)
@@ -159,7 +181,7 @@ keeps s sized c some sound = go (only-by-rules s sized c)
       where
         go : Ways s u s′ → countOf s′ < exchangesOf s′
         go (to-coarse b w v) =
-            omega (arith, j .count-zero (b .0) (b .1) w, ap (λ (g : Settings). g .exchanges) (j .settings), some)
+            omega (arith, j .count-zero (b .0) (b .1) w, ap (λ (g : Settings). g .exchanges) (j .settings), sound .settings .one-exchange)
         go (as-it-was b w v) =
             omega (arith, j .count-kept (λ o p q. w q), ap (λ (g : Settings). g .exchanges) (j .settings), sound .counting (sym v ∙ coarse))
         go (to-fine b v) = absurd (let z : _≡_ {A = ℕ} 0 1 = cc in omega arith)
@@ -178,42 +200,46 @@ keeps s sized c some sound = go (only-by-rules s sized c)
     go (nothing row) = sound
     go {s′ = s′} (entered t k e x y z) =
         let now = same-clock (z .own) in
+        let limit = same-limit (same-settings (z .own)) in
         record {
+          settings = subst InRange (sym (same-settings (z .own))) (sound .settings);
           sized = z .others .size ∙ sound .sized;
           word = z .word-fits (sound .word);
           distinct = new-key s s′ k (z .others) sound t x (z .key);
           units =
-              each-present s s′ k (z .others) sound now (record {
+              each-present s s′ k (z .others) sound (z .own) (record {
                 heard = omega (arith, z .last, now);
-                present = omega (arith, z .last, now);
+                present = omega (arith, z .last, now, limit, sound .settings .shortest);
                 inside = λ w. absurd (true≢false (sym w ∙ z .outside));
               });
           counting = subst Counting (sym (z .own)) (sound .counting);
         }
     go {s′ = s′} (again t k e x y) =
         let now = same-clock (y .own) in
+        let limit = same-limit (same-settings (y .own)) in
         let was = sound .units k (x .there) in
         renewed-sound s s′ k (y .others) sound (y .own) (y .word) (y .key) (record {
           heard = omega (arith, y .last, now, was .heard);
-          present = omega (arith, y .last, now, was .present);
+          present = omega (arith, y .last, now, limit, was .present);
           inside = λ w. y .state ∙ y .inside .0 w .1;
         })
-    go {s′ = s′} (joined g k e x y z u) = same-places s s′ sound (u .word) (u .entries) (u .clock) (joined-counting u)
+    go {s′ = s′} (joined g k e x y z u) = same-places s s′ sound (u .settings) (u .word) (u .entries) (u .clock) (joined-counting u)
     go {s′ = s′} (positioned g k e x y z u) =
         let now = same-clock (u .own) in
+        let limit = same-limit (same-settings (u .own)) in
         renewed-sound s s′ k (u .others) sound (u .own) (u .word) (u .key) (record {
           heard = omega (arith, u .last, now);
-          present = omega (arith, u .last, now);
+          present = omega (arith, u .last, now, limit, sound .settings .shortest);
           inside = λ w. u .state ∙ z;
         })
-    go {s′ = s′} (counted g k e x y z v u) = same-places s s′ sound (u .word) (u .entries) (u .clock) (counted-counting u)
+    go {s′ = s′} (counted g k e x y z v u) = same-places s s′ sound (u .settings) (u .word) (u .entries) (u .clock) (counted-counting u)
     go {s′ = s′} (ticked x y) =
         let was : (i : ℕ) → HeldAt s′ i → HeldAt s i =
         (λ i h. record { place = h .place; taken = y .stays i (h .place) .0 (h .taken) .0 }) in
-        same-entries s s′ sound (y .entries) (y .word-fits) was
+        same-entries s s′ sound (y .settings) (y .entries) (y .word-fits) was
         (λ i h. record {
           heard = omega (arith, sound .units i (was i h) .heard, x, y .clock);
-          present = omega (arith, y .stays i (h .place) .0 (h .taken) .1, y .clock);
+          present = omega (arith, y .stays i (h .place) .0 (h .taken) .1, y .clock, same-limit (y .settings));
           inside = sound .units i (was i h) .inside;
         })
         (λ coarse.
@@ -227,23 +253,11 @@ keeps s sized c some sound = go (only-by-rules s sized c)
 
 -- ---- every list of calls
 
-fresh-exchanges : (settings : Settings) → 1 ≤ settings .exchanges → 1 ≤ exchangesOf (fresh settings)
-unfolding fresh
-fresh-exchanges settings some = some
-
--- it has an exchange, and is sound
-abbrev Standing? : Station → Type 0
-Standing? s = (1 ≤ exchangesOf s) × Sound s
-
-keeps-both : (s : Station) → Sized s → (c : Call) → Standing? s → Standing? (called s c .station)
-keeps-both s sized c (some, sound) =
-    (subst (λ (g : Settings). 1 ≤ g .exchanges) (sym (settings-kept s sized c)) some, keeps s sized c some sound)
-
--- Whatever the calls, a station from the maker stays sound.
+-- Whatever the calls, a station from a maker stays sound.
 pub always-sound : (given : Settings) (calls : List Call) → Sound (after (made given .station) calls)
 always-sound given calls = of-made (λ s. Sound (after s calls)) from-fresh given
   where
-    from-fresh : (settings : Settings) → 1 ≤ settings .exchanges → Sound (after (fresh settings) calls)
-    from-fresh settings some =
-        let sound = fresh-sound settings in
-        kept-by-all Standing? keeps-both (fresh settings) calls (sound .sized) (fresh-exchanges settings some, sound) .1
+    from-fresh : (settings : Settings) → InRange settings → Sound (after (fresh settings) calls)
+    from-fresh settings fit =
+        let sound = fresh-sound settings fit in
+        kept-by-all Sound keeps (fresh settings) calls (sound .sized) sound

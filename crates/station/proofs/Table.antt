@@ -20,9 +20,8 @@ use Rattle.pdu.specs.declared.Transmitter.{Transmitter}
 use Rattle.pdu.specs.declared.Signal.{Signal}
 use Rattle.pdu.specs.declared.Reading.{Reading}
 use Rattle.pdu.specs.declared.Reading.the-variants.{Refused, Transmitter as aTransmitter, Signal as aSignal}
-use Rattle.station.specs.Numbers.{absence}
 use Rattle.station.specs.Units.{levelOf, netOf, exchangesOf, countOf, idOf, stateOf, clockOf, keyOf, blank, unitAt, placeOf, known, withUnit}
-use Rattle.station.specs.Units.{withNew}
+use Rattle.station.specs.Units.{limitOf, withNew}
 use Rattle.station.specs.Plain.{Sized, LowestFree}
 use Rattle.station.specs.Hearing.{answering, unless, newUnit, renewed, enter, renew, hearTransmitter, otherId, senderOf, signalRules}
 use Rattle.station.specs.Hearing.{messageOf, stateAfter, bothCoarse, countJoined, afterJ00, afterPpli, heardUnit, isFine, isCoarse, countsFor}
@@ -245,10 +244,10 @@ counting s u e =
 pub counts-for : (s : Station) (u : Unit) → Counting s u → countsFor (s .own) u ≡ true
 counts-for s u c = rw (c .state, both-four _ _ (c .own) (c .sender))
 
-stays-held : (was : Bool) (t last : ℕ) → ((was && not (silent t last)) ≡ true) ↔ ((was ≡ true) × (t - last < 60))
-stays-held was t last = (
-  λ e. let w = both-true was (not (silent t last)) e in (w .0, omega (arith, leb-false absence (t - last) (not-true (silent t last) (w .1)))),
-  λ w. rw (w .0, lt-leb absence (t - last) (omega (arith, w .1))),
+stays-held : (was : Bool) (limit t last : ℕ) → ((was && not (silent limit t last)) ≡ true) ↔ ((was ≡ true) × (t - last < limit))
+stays-held was limit t last = (
+  λ e. let w = both-true was (not (silent limit t last)) e in (w .0, leb-false _ _ (not-true (silent limit t last) (w .1))),
+  λ w. rw (w .0, lt-leb _ _ (w .1)),
 )
 
 ticked-row : (s : Station) (t : ℕ) → Ticked s t (atTime s t)
@@ -259,7 +258,7 @@ ticked-row s t = record {
   clock = refl;
   entries = refl;
   word-fits = built-fits (stays s t) places;
-  stays = λ i l. rw (held-built (stays s t) places i l) (stays-held (held (s .used) i) t (unitAt s i .last));
+  stays = λ i l. rw (held-built (stays s t) places i l) (stays-held (held (s .used) i) (limitOf s) t (unitAt s i .last));
 }
 
 -- ---- every outcome has its row

@@ -13,8 +13,8 @@ use Rattle.pdu.specs.declared.Transmitter.{Transmitter}
 use Rattle.pdu.specs.declared.Signal.{Signal}
 use Rattle.pdu.specs.declared.Word.the-variants.{Absent, Here}
 use Rattle.pdu.specs.declared.Reading.the-variants.{Refused, Transmitter as aTransmitter}
-use Rattle.station.specs.Units.{levelOf, netOf, exchangesOf, countOf, idOf, stateOf, clockOf, keyOf, made, stateNumber, unitAt, unitsHeld}
-use Rattle.station.specs.Units.{seenOf, placeAt}
+use Rattle.station.specs.Units.{levelOf, netOf, exchangesOf, limitOf, countOf, idOf, stateOf, clockOf, settingsOf, usualSettings, made}
+use Rattle.station.specs.Units.{keyOf, stateNumber, unitAt, unitsHeld, seenOf, placeAt}
 use Rattle.station.specs.Plain.{Sized, NoneBeyond, HeldAt, oneAt, Sender, Stranger, Clash}
 use Rattle.station.specs.Hearing.{answering, firstWord, heard}
 use Rattle.station.specs.Runs.{Call, datagram, called, after}
@@ -29,10 +29,11 @@ use Rattle.station.specs.declared.Station.{Station}
 -- ---- the maker, and keys
 
 -- A station before its first call: ID 0, count 0, Waiting, clock 0, and sixteen places of which none is held.
-pub record Fresh (l n e : ℕ) (s : Station) : Type 0 where
+pub record Fresh (l n e a : ℕ) (s : Station) : Type 0 where
   pub level : levelOf s ≡ l
   pub net : netOf s ≡ n
   pub exchanges : exchangesOf s ≡ e
+  pub limit : limitOf s ≡ a
   pub count : countOf s ≡ 0
   pub id : idOf s ≡ 0
   pub state : stateOf s ≡ Waiting
@@ -40,22 +41,33 @@ pub record Fresh (l n e : ℕ) (s : Station) : Type 0 where
   pub sized : Sized s
   pub empty : (i : ℕ) → HeldAt s i → ⊥
 
--- What the maker answers and gives: 37 and a station of level 0, net 0 and 1 exchange, or 0 and the station asked for.
-pub data MakerTable (level net exchanges : ℕ) : ℕ → Station → Type 0 where
+-- What a maker answers and gives: 37 and a station of level 0, net 0, 1 exchange and a limit of 96 seconds, or 0 and the station asked for.
+pub data MakerTable (level net exchanges limit : ℕ) : ℕ → Station → Type 0 where
   refused : {s : Station}
-      → (4 < level) ⊎ ((127 < net) ⊎ ((exchanges < 1) ⊎ (16 < exchanges)))
-      → Fresh 0 0 1 s
-      → MakerTable level net exchanges 37 s
+      → (4 < level) ⊎ ((127 < net) ⊎ ((exchanges < 1) ⊎ ((16 < exchanges) ⊎ ((limit < 24) ⊎ (600 < limit)))))
+      → Fresh 0 0 1 96 s
+      → MakerTable level net exchanges limit 37 s
   taken : {s : Station}
       → level ≤ 4
       → net ≤ 127
       → 1 ≤ exchanges
       → exchanges ≤ 16
-      → Fresh level net exchanges s
-      → MakerTable level net exchanges 0 s
+      → 24 ≤ limit
+      → limit ≤ 600
+      → Fresh level net exchanges limit s
+      → MakerTable level net exchanges limit 0 s
 
-abbrev pub MadeByRules : Settings → Type 0
-MadeByRules given = MakerTable (given .level) (given .net) (given .exchanges) (made given .answer) (made given .station)
+-- The maker with a limit, by the four numbers that its caller gives.
+abbrev pub MadeByRules : ℕ → ℕ → ℕ → ℕ → Type 0
+MadeByRules level net exchanges limit =
+    let m = made (settingsOf level net exchanges limit) in
+    MakerTable level net exchanges limit (m .answer) (m .station)
+
+-- The maker without one: it gives the limit 96.
+abbrev pub UsualByRules : ℕ → ℕ → ℕ → Type 0
+UsualByRules level net exchanges =
+    let m = made (usualSettings level net exchanges) in
+    MakerTable level net exchanges 96 (m .answer) (m .station)
 
 -- The four numbers of a key have two bytes each: so it is of every header that a program can hold.
 pub record TwoBytes (h : Header) : Type 0 where
@@ -231,17 +243,29 @@ pub record Announces (key : ℕ) (s : Station) (c : Call) : Type 0 where
 abbrev pub HeardFirst : Station → List Call → Type 0
 HeardFirst s calls = (i : ℕ) → HeldAt (after s calls) i → Some (Announces (unitAt (after s calls) i .key)) s calls
 
--- A unit that is held: it was not last heard after the present second, it has not been silent for 60 seconds, and if it is In it is fine.
-pub record Present (now : ℕ) (u : Unit) : Type 0 where
+-- A unit that is held: it was not last heard after the present second, it has not been silent for as long as the limit, and if it is In it is
+-- fine.
+pub record Present (limit now : ℕ) (u : Unit) : Type 0 where
   pub heard : u .last ≤ now
-  pub present : now - u .last < 60
+  pub present : now - u .last < limit
   pub inside : u .inside ≡ true → u .state ≡ 3
 
--- What is true of every station that calls can reach: there are sixteen places and no place beyond them is held, no two held places have the
--- same key, every unit that is held is as above, and while it is Coarse the count is below the number of exchanges. Proved by always-sound.
+-- Settings that a maker takes.
+pub record InRange (settings : Settings) : Type 0 where
+  pub level : settings .level ≤ 4
+  pub net : settings .net ≤ 127
+  pub one-exchange : 1 ≤ settings .exchanges
+  pub exchanges : settings .exchanges ≤ 16
+  pub shortest : 24 ≤ settings .limit
+  pub longest : settings .limit ≤ 600
+
+-- What is true of every station that calls can reach: its settings are such as a maker takes, there are sixteen places and no place beyond them
+-- is held, no two held places have the same key, every unit that is held is as above, by the station's own limit, and while it is Coarse the
+-- count is below the number of exchanges. Proved by always-sound.
 pub record Sound (s : Station) : Type 0 where
+  pub settings : InRange (s .own .settings)
   pub sized : Sized s
   pub word : NoneBeyond s
   pub distinct : (i j : ℕ) → HeldAt s i → HeldAt s j → unitAt s i .key ≡ unitAt s j .key → i ≡ j
-  pub units : (i : ℕ) → HeldAt s i → Present (clockOf s) (unitAt s i)
+  pub units : (i : ℕ) → HeldAt s i → Present (limitOf s) (clockOf s) (unitAt s i)
   pub counting : stateOf s ≡ Coarse → countOf s < exchangesOf s

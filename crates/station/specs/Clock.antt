@@ -5,21 +5,20 @@ use mathlib.Core.List.{[], _∷_}
 use lib.Dec.{leb, ltb}
 use Rattle.wire.specs.First.{_given-when_}
 use Rattle.occupancy.specs.Places.{places, held, wordOf}
-use Rattle.station.specs.Numbers.{absence}
-use Rattle.station.specs.Units.{clockOf, withClock, unitAt}
+use Rattle.station.specs.Units.{limitOf, clockOf, withClock, unitAt}
 use Rattle.station.specs.Hearing.{answering, unless}
 use Rattle.station.specs.declared.Station.{Station}
 use Rattle.station.specs.declared.Heard.{Heard}
 
--- whether a unit last heard at this second is absent at t: "t − last of 60 or more"
-abbrev pub silent : ℕ → ℕ → Bool
-silent t last = leb absence (t - last)
+-- whether a unit last heard at this second is absent at t, by this limit: "t − last of 60 or more", and 02, R-12: "The limit replaces 60"
+abbrev pub silent : ℕ → ℕ → ℕ → Bool
+silent limit t last = leb limit (t - last)
 
--- whether place i is held and stays held at t
+-- whether place i is held and stays held at t, by the station's own limit
 abbrev pub stays : Station → ℕ → ℕ → Bool
-stays s t i = held (s .used) i && not (silent t (unitAt s i .last))
+stays s t i = held (s .used) i && not (silent (limitOf s) t (unitAt s i .last))
 
--- "now = t, and every entry with t − last of 60 or more is removed": the places are freed, and what stands in them is left
+-- "now = t, and every entry with t − last of" the limit "or more is removed": the places are freed, and what stands in them is left
 unfoldable pub atTime : Station → ℕ → Station
 atTime s t = record { units = s .units; own = withClock (s .own) t; used = wordOf (stays s t) places }
 

@@ -15,6 +15,16 @@ fewestExchanges = 1
 abbrev pub mostExchanges : ℕ
 mostExchanges = 16
 
+-- 37: the shortest and the longest absence limit, in seconds; and the limit of a station that is made without one (02, R-12)
+abbrev pub shortestLimit : ℕ
+shortestLimit = 24
+
+abbrev pub longestLimit : ℕ
+longestLimit = 600
+
+abbrev pub usualLimit : ℕ
+usualLimit = 96
+
 -- one more than the most that each of the four numbers of a key can be: they have two bytes each
 abbrev pub keyPart : ℕ
 keyPart = 65536
@@ -30,7 +40,3 @@ coarseLevel = 4
 -- the label of a PPLI
 abbrev pub ppliLabel : ℕ
 ppliLabel = 2
-
--- the seconds without a PPLI after which an entry is removed
-abbrev pub absence : ℕ
-absence = 60

@@ -11,7 +11,7 @@ use Rattle.pdu.specs.Reading.{reading}
 use Rattle.pdu.specs.declared.Transmitter.{Transmitter}
 use Rattle.pdu.specs.declared.Signal.{Signal}
 use Rattle.pdu.specs.declared.Reading.the-variants.{Refused, Transmitter as aTransmitter, Signal as aSignal}
-use Rattle.station.specs.Units.{levelOf, netOf, exchangesOf, countOf, idOf, stateOf, clockOf, keyOf, unitAt}
+use Rattle.station.specs.Units.{levelOf, netOf, exchangesOf, limitOf, countOf, idOf, stateOf, clockOf, keyOf, unitAt}
 use Rattle.station.specs.Plain.{NoneBeyond, Sender, Stranger, LowestFree, Full, Agree, Clash, IsJ00, IsPpli, IsOther}
 use Rattle.station.specs.Hearing.{firstWord}
 use Rattle.station.specs.Runs.{Call, datagram, time}
@@ -128,15 +128,15 @@ pub record Positioned (s : Station) (i : ℕ) (s′ : Station) : Type 0 where
   pub inside : unitAt s′ i .inside ≡ true
   pub last : unitAt s′ i .last ≡ clockOf s
 
--- After a clock t: the time is t, and a place is held exactly if it was and its unit was last heard less than 60 seconds before t. Nothing
--- else changes.
+-- After a clock t: the time is t, and a place is held exactly if it was and its unit was last heard less than the station's limit before t.
+-- Nothing else changes.
 pub record Ticked (s : Station) (t : ℕ) (s′ : Station) : Type 0 where
   pub settings : s′ .own .settings ≡ s .own .settings
   pub standing : s′ .own .standing ≡ s .own .standing
   pub clock : clockOf s′ ≡ t
   pub entries : s′ .units ≡ s .units
   pub word-fits : NoneBeyond s′
-  pub stays : (i : ℕ) → i < 16 → (held (s′ .used) i ≡ true) ↔ ((held (s .used) i ≡ true) × (t - unitAt s i .last < 60))
+  pub stays : (i : ℕ) → i < 16 → (held (s′ .used) i ≡ true) ↔ ((held (s .used) i ≡ true) × (t - unitAt s i .last < limitOf s))
 
 -- ---- the table
 

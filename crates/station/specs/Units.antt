@@ -6,7 +6,7 @@ use lib.Dec.{eqb, ltb}
 use Rattle.occupancy.specs.Places.{places, held, least, heldCount, withPlace}
 use Rattle.pdu.specs.Numbers.{coarse, fine}
 use Rattle.pdu.specs.declared.Header.{Header}
-use Rattle.station.specs.Numbers.{lastLevel, lastNet, fewestExchanges, mostExchanges, keyPart}
+use Rattle.station.specs.Numbers.{lastLevel, lastNet, fewestExchanges, mostExchanges, shortestLimit, longestLimit, usualLimit, keyPart}
 use Rattle.station.specs.declared.State.{State}
 use Rattle.station.specs.declared.State.the-variants.{Waiting, Coarse, Fine}
 use Rattle.station.specs.declared.Settings.{Settings}
@@ -35,6 +35,10 @@ exchangesOf s = s .own .settings .exchanges
 
 abbrev pub countOf : Station → ℕ
 countOf s = s .own .standing .count
+
+-- 02, R-12: "A station is now made with an absence limit"
+abbrev pub limitOf : Station → ℕ
+limitOf s = s .own .settings .limit
 
 abbrev pub idOf : Station → ℕ
 idOf s = s .own .standing .id
@@ -73,22 +77,27 @@ blank = record { key = 0; last = 0; id = 0; level = 0; state = 0; inside = false
 unfoldable pub fresh : Settings → Station
 fresh settings = record { units = replicate places blank; own = freshOwn settings; used = 0 }
 
--- what a maker is asked for
-abbrev pub settingsOf : ℕ → ℕ → ℕ → Settings
-settingsOf level net exchanges = record { level = level; net = net; exchanges = exchanges }
+-- what the maker with a limit is asked for
+abbrev pub settingsOf : ℕ → ℕ → ℕ → ℕ → Settings
+settingsOf level net exchanges limit = record { level = level; net = net; exchanges = exchanges; limit = limit }
 
--- 37: level, net, and the number of exchanges (02, R-1)
+-- what the maker without one is asked for: it "gives 96" (02, R-12)
+abbrev pub usualSettings : ℕ → ℕ → ℕ → Settings
+usualSettings level net exchanges = settingsOf level net exchanges usualLimit
+
+-- 37: level, net, the number of exchanges (02, R-1), and the absence limit (02, R-12)
 abbrev pub wrongSettings : Settings → Bool
 wrongSettings settings =
     ltb lastLevel (settings .level)
     || ltb lastNet (settings .net)
     || (ltb (settings .exchanges) fewestExchanges || ltb mostExchanges (settings .exchanges))
+    || (ltb (settings .limit) shortestLimit || ltb longestLimit (settings .limit))
 
--- the settings of the station that a refusal holds: "level 0, net 0", and 1 exchange
+-- the settings of the station that a refusal holds: "level 0, net 0", 1 exchange, and the usual limit
 abbrev pub leastSettings : Settings
-leastSettings = settingsOf 0 0 1
+leastSettings = settingsOf 0 0 1 usualLimit
 
--- what the maker answers: 0; or 37, with a station of the least settings
+-- what a maker answers: 0; or 37, with a station of the least settings
 unfoldable pub made : Settings → Made
 made settings =
     cond (wrongSettings settings)

@@ -2,8 +2,8 @@
 // Every public call takes every station and every argument, and is promised as a whole answer and a whole station after it.
 ghost use mathlib.Core.Path.{_≡_};
 ghost use Rattle.pdu.specs.Reading.{reading};
-ghost use Rattle.station.specs.Units.{levelOf, netOf, exchangesOf, countOf, idOf, stateOf, clockOf, keyOf, fresh, wrongSettings};
-ghost use Rattle.station.specs.Units.{settingsOf, made, stateNumber, unitsHeld};
+ghost use Rattle.station.specs.Units.{levelOf, netOf, exchangesOf, limitOf, countOf, idOf, stateOf, clockOf, keyOf, fresh, wrongSettings};
+ghost use Rattle.station.specs.Units.{settingsOf, usualSettings, made, stateNumber, unitsHeld};
 ghost use Rattle.station.specs.Units.{seenOf, placeAt};
 ghost use Rattle.station.specs.Hearing.{heard};
 ghost use Rattle.station.specs.Parts.{senderKey, DecidesFor};
@@ -24,6 +24,13 @@ const FEWEST_EXCHANGES: u8 = 1;
 
 const MOST_EXCHANGES: u8 = 16;
 
+// The absence limit of a station: the seconds without a PPLI after which a unit is removed; and that of a station made without one (request R-12).
+const SHORTEST_LIMIT: u16 = 24;
+
+const LONGEST_LIMIT: u16 = 600;
+
+pub const USUAL_LIMIT: u16 = 96;
+
 // Each of the four numbers of a key has two bytes.
 const KEY_PART: u64 = 65536;
 
@@ -36,6 +43,7 @@ pub enum State {
 
 // What a station is made with; no call changes it.
 pub struct Settings {
+    limit: u16,
     level: u8,
     net: u8,
     exchanges: u8,
@@ -88,7 +96,7 @@ struct Outcome {
     answer: u8,
 }
 
-// What the maker answers: 0, or 37 with a station of level 0, net 0 and 1 exchange.
+// What a maker answers: 0, or 37 with a station of level 0, net 0, 1 exchange and the usual limit.
 pub struct Made {
     pub station: Station,
     pub answer: u8,
@@ -156,26 +164,30 @@ fn wrong_settings(settings: Settings) -> bool
     ensures { λ r. ⌜ r ≡ wrongSettings settings ⌝ }
 {
     let asked = settings.exchanges;
+    let absence = settings.limit;
     let net = wire::either(
         pdu::LAST_LEVEL < settings.level,
         pdu::LAST_NET < settings.net,
     );
     let exchanges = wire::either(asked < FEWEST_EXCHANGES, MOST_EXCHANGES < asked);
-    wire::either(net, exchanges)
+    let limit = wire::either(absence < SHORTEST_LIMIT, LONGEST_LIMIT < absence);
+    wire::either(wire::either(net, exchanges), limit)
 }
 
-// Makes a station of this level and net, with this number of exchanges of round-trip timing; 37 where the level is above 4, the net above 127,
-// or the exchanges are not 1 to 16.
-pub fn new(level: u8, net: u8, exchanges: u8) -> Made
-    ensures { λ r. ⌜ r ≡ made (settingsOf level net exchanges) ⌝ }
+// Makes a station of this level and net, with this number of exchanges of round-trip timing and this absence limit in seconds; 37 where the
+// level is above 4, the net above 127, the exchanges are not 1 to 16, or the limit is not 24 to 600.
+pub fn with_limit(level: u8, net: u8, exchanges: u8, limit: u16) -> Made
+    ensures { λ r. ⌜ r ≡ made (settingsOf level net exchanges limit) ⌝ }
 {
     let settings = Settings {
+        limit,
         level,
         net,
         exchanges,
     };
     if wrong_settings(settings) {
         let least = Settings {
+            limit: USUAL_LIMIT,
             level: 0,
             net: 0,
             exchanges: FEWEST_EXCHANGES,
@@ -189,6 +201,13 @@ pub fn new(level: u8, net: u8, exchanges: u8) -> Made
         station: fresh_station(settings),
         answer: answers::MADE,
     }
+}
+
+// Makes a station with the usual limit, 96 seconds; 37 as above.
+pub fn new(level: u8, net: u8, exchanges: u8) -> Made
+    ensures { λ r. ⌜ r ≡ made (usualSettings level net exchanges) ⌝ }
+{
+    with_limit(level, net, exchanges, USUAL_LIMIT)
 }
 
 // What a reading of the datagram makes of the part with its sender's place.
@@ -311,6 +330,13 @@ pub fn count_of(station: Station) -> u8
     ensures { λ r. ⌜ r ≡ countOf station ⌝ }
 {
     station.own.standing.count
+}
+
+// The seconds without a PPLI after which the station removes a unit.
+pub fn limit_of(station: Station) -> u16
+    ensures { λ r. ⌜ r ≡ limitOf station ⌝ }
+{
+    station.own.settings.limit
 }
 
 pub fn id_of(station: Station) -> u32

@@ -5,9 +5,6 @@ ghost use Rattle.occupancy.specs.Places.{places, wordOf};
 ghost use Rattle.station.specs.Clock.{silent, stays};
 use crate::Station;
 
-// The seconds without a PPLI after which a unit is absent.
-const ABSENCE: u64 = 60;
-
 // The seconds from `last` to t; none where t is earlier.
 fn elapsed(t: u64, last: u64) -> u64
     ensures { λ r. ⌜ r ≡ t - last ⌝ }
@@ -15,11 +12,11 @@ fn elapsed(t: u64, last: u64) -> u64
     if t < last { 0 } else { t - last }
 }
 
-// Whether a unit last heard at this second is absent at t.
-fn is_silent(t: u64, last: u64) -> bool
-    ensures { λ r. ⌜ r ≡ silent t last ⌝ }
+// Whether a unit last heard at this second is absent at t, by this limit.
+fn is_silent(limit: u16, t: u64, last: u64) -> bool
+    ensures { λ r. ⌜ r ≡ silent limit t last ⌝ }
 {
-    ABSENCE <= elapsed(t, last)
+    limit as u64 <= elapsed(t, last)
 }
 
 // The word of the places that stay held at t.
@@ -32,7 +29,7 @@ pub(crate) fn survivors(s: Station, t: u64) -> u16
         let u = s.units[i];
         if wire::both(
             occupancy::is_held(s.used, i),
-            wire::no(is_silent(t, u.last)),
+            wire::no(is_silent(s.own.settings.limit, t, u.last)),
         ) {
             word = occupancy::with_place(word, i);
         }

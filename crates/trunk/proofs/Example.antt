@@ -222,9 +222,9 @@ abbrev pub answers-of : List (Call × Said) → List Said
 answers-of [] = []
 answers-of (x ∷ xs) = x .1 ∷ answers-of xs
 
--- from a store with whatever it held, and a station of level 4, net 0, 1 exchange
+-- from a store with whatever it held, and a station of level 4, net 0, 1 exchange, and a limit of 31 seconds: at 30 the unit heard at 0 is held
 abbrev pub settings : Settings
-settings = settingsOf 4 0 1
+settings = settingsOf 4 0 1 31
 
 unfoldable pub before : Line
 before = start settings (replicate storeSize 255)

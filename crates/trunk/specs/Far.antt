@@ -25,7 +25,7 @@ use Rattle.trunk.specs.declared.Ticked.{Ticked}
 abbrev pub freshFar : Station → Far
 freshFar s = record { count = 0; station = s }
 
--- what the far end's maker answers: the fresh far end with the station that the station's maker gives, 37 passed on
+-- what the far end's makers answer: the fresh far end with the station that the station's maker gives, 37 passed on
 abbrev pub madeFar : Settings → MadeFar
 madeFar given = record { far = freshFar (made given .station); answer = made given .answer }
 

@@ -3,7 +3,7 @@ ghost use mathlib.Core.Path.{_≡_};
 ghost use Prim.Native.Nat.{_≤_, _<_};
 ghost use lib.ListN.{length};
 ghost use Rattle.wire.specs.Bytes.{splice};
-ghost use Rattle.station.specs.Units.{settingsOf};
+ghost use Rattle.station.specs.Units.{settingsOf, usualSettings};
 ghost use Rattle.trunk.specs.Head.{headSize};
 ghost use Rattle.trunk.specs.Record.{lastNumber, replyOf};
 ghost use Rattle.trunk.specs.Far.{madeFar, isNext, countAfter, delivered, ArrivalGives, ticked};
@@ -17,9 +17,22 @@ use crate::kinds;
 use crate::records;
 use station::Station;
 
-// A far end before its first call, with a station of this level and net and this number of exchanges; 37 where the station's maker gives it.
+// A far end before its first call, with a station of this level and net, this number of exchanges and this absence limit; 37 where the station's
+// maker gives it.
+pub fn with_limit(level: u8, net: u8, exchanges: u8, limit: u16) -> MadeFar
+    ensures { λ r. ⌜ r ≡ madeFar (settingsOf level net exchanges limit) ⌝ }
+{
+    let made = station::with_limit(level, net, exchanges, limit);
+    let station = made.station;
+    MadeFar {
+        far: Far { count: 0, station },
+        answer: made.answer,
+    }
+}
+
+// The same with the usual limit of the station's maker without one, 96 seconds.
 pub fn new(level: u8, net: u8, exchanges: u8) -> MadeFar
-    ensures { λ r. ⌜ r ≡ madeFar (settingsOf level net exchanges) ⌝ }
+    ensures { λ r. ⌜ r ≡ madeFar (usualSettings level net exchanges) ⌝ }
 {
     let made = station::new(level, net, exchanges);
     let station = made.station;

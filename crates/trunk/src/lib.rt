@@ -73,7 +73,7 @@ pub struct Far {
     station: Station,
 }
 
-// What the far end's maker answers: 0, or 37 with a station of level 0, net 0 and 1 exchange.
+// What a maker of far ends answers: 0, or 37 with a station of level 0, net 0, 1 exchange and the usual limit.
 pub struct MadeFar {
     pub far: Far,
     pub answer: u8,

@@ -1,4 +1,4 @@
--- `new` meets its contract: it is the station's maker, with the count at 0.
+-- `new` meets its contract: it is the station's maker without a limit, with the count at 0.
 -- Assumes nothing.
 use mathlib.Core.Path.{ap}
 use Rattle.station.specs.declared.Made.{Made}
