@@ -28,6 +28,9 @@ RUSTFLAGS := --edition 2021 -C opt-level=3 -C codegen-units=1 -C linker=$(CC) -D
 
 EXAMPLE := target/host/example
 HOST_TESTS := target/host/tests
+EXPORTS := target/host/exports.h
+SOURCE_TEST := target/source/source-test
+WRITER_MIR := target/source/writer.mir
 SECOND := target/second/second
 LINKED := target/linked-archive
 
@@ -41,6 +44,7 @@ need = $(if $(shell command -v $(1) 2>/dev/null),,$(error $(1), $(2), is not on 
 need-rt = $(call need,rt,the Rattle toolchain)
 need-cc = $(call need,$(CC),the C compiler)
 need-rustc = $(call need,$(RUSTC),the Rust compiler)
+need-nm = $(call need,nm,which tells the symbols of an archive)
 
 # $(call say,TEXT): what is done next; standard output is for what a target shows.
 say = @echo '$(1)' >&2
@@ -93,6 +97,11 @@ runs: $(PROGRAMS)
 ## make host-tests       the C tests of the archive alone                                        3 minutes
 host-tests: c-compiler $(HOST_TESTS)
 	@$(HOST_TESTS)
+
+.PHONY: source-test
+## make source-test      the test of the source: no long array in the writer or what it calls    1 minute
+source-test: rust-compiler $(SOURCE_TEST) $(WRITER_MIR)
+	@$(SOURCE_TEST) crates $(WRITER_MIR)
 
 .PHONY: compare
 ## make compare          the archive and the second program on datagrams                         3 minutes
@@ -162,12 +171,31 @@ $(PROGRAMS): target/bin/%: crates.txt $(CRATE_FILES) | kit
 	@touch -c $@
 
 $(EXAMPLE): host/example.c
-$(HOST_TESTS): $(wildcard host/tests/*)
+$(HOST_TESTS): $(wildcard host/tests/*) $(EXPORTS)
 $(EXAMPLE) $(HOST_TESTS): host/datagrams.c host/records.c $(wildcard host/*.h) $(ARCHIVE) $(LINKED)
 	$(need-cc)
 	$(call say,Compiling $@.)
 	@mkdir -p $(@D)
-	@$(CC) $(CFLAGS) -o $@ $(filter %.c,$^) $(ARCHIVE)
+	@$(CC) $(CFLAGS) -I$(dir $(EXPORTS)) -o $@ $(filter %.c,$^) $(ARCHIVE)
+
+# The calls that the archive exports, one EXPORT(name) to a line: the C tests must know each.
+$(EXPORTS): $(ARCHIVE) $(LINKED)
+	$(need-nm)
+	@mkdir -p $(@D)
+	@nm --extern-only --defined-only $(ARCHIVE) | sed -n 's/^.* T \(.*\)$$/EXPORT(\1)/p' > $@
+
+$(SOURCE_TEST): $(wildcard source/*.rs) second/check.rs
+	$(need-rustc)
+	$(call say,Compiling $@.)
+	@mkdir -p $(@D)
+	@$(RUSTC) $(RUSTFLAGS) --crate-name source_test -o $@ source/main.rs
+
+# What the compiler has of the writer and of the crates below it, which it wants proved first.
+$(WRITER_MIR): crates.txt $(CRATE_FILES) | kit
+	$(need-rt)
+	$(call say,Asking the compiler for the functions of the writer.)
+	@mkdir -p $(@D)
+	@rt mir writer > $@ 2> $@.log || { cat $@.log >&2; exit 1; }
 
 $(SECOND): $(shell find second -name '*.rs') $(ARCHIVE) $(LINKED)
 	$(need-rustc)

@@ -32,6 +32,7 @@ counted() {
 counted 'rt ci' rt ci
 shown 'rt fmt' rt fmt --check
 total=$((total + 1))
+counted 'source test' make source-test
 shown 'archive' make archive
 shown 'programs' make programs
 counted 'runs' make runs

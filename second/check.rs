@@ -34,7 +34,7 @@ impl Claim {
 }
 
 /// How many checks of the proved code passed, and how many failed; and how many checks of the
-/// second program on itself hold, which are not counted among those.
+/// testing program on itself hold, which are not counted among those.
 #[derive(Default)]
 pub struct Report {
     passed: u32,
@@ -51,7 +51,7 @@ impl Report {
         self.failed += u32::from(!holds);
     }
 
-    /// Counts a check of the second program on itself, and prints it.
+    /// Counts a check of the testing program on itself, and prints it.
     pub fn count_own(&mut self, claim: &Claim) {
         let holds = claim.print("self");
         self.own_held += u32::from(holds);

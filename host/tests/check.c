@@ -1,8 +1,8 @@
 #include "check.h"
 
 #include "../altuvrin.h"
+#include "stack.h"
 
-#include <stdbool.h>
 #include <stdio.h>
 #include <stdlib.h>
 #include <string.h>
@@ -11,6 +11,7 @@ static const char *current;
 static bool current_failed;
 static unsigned passed;
 static unsigned failed;
+static unsigned own_held;
 
 void check_begin(const char *what)
 {
@@ -26,10 +27,36 @@ void check_end(void)
         passed++;
 }
 
+void check_that(const char *what, bool holds)
+{
+    check_begin(what);
+    if (!holds) {
+        printf("FAILED: %s\n", what);
+        current_failed = true;
+    }
+    check_end();
+}
+
+void check_own(const char *what, bool holds)
+{
+    if (!holds)
+        printf("FAILED: the tests' own: %s\n", what);
+    own_held += holds;
+    failed += !holds;
+}
+
+/* What became of the same call on the small stack. */
+static const char *on_small_stack(struct small_run run, uint64_t answer)
+{
+    if (run.overflowed)
+        return "went past the end of 8 KiB";
+    return run.answer == answer ? "the same" : "another answer";
+}
+
 /* A call of the library, with its name. */
 struct call {
     const char *name;
-    uint64_t (*function)(const uint8_t *bytes, size_t length);
+    archive_call *function;
 };
 
 static const struct call DATAGRAM = {"altuvrin_datagram", altuvrin_datagram};
@@ -61,11 +88,14 @@ static void compare(struct call call, const uint8_t *bytes, size_t length, uint3
                     uint32_t size)
 {
     uint64_t answer = call.function(bytes, length);
+    struct small_run run = try_small_stack(call.function, bytes, length);
     bool same = altuvrin_number(answer) == number && altuvrin_size(answer) == size;
-    if (same && has_reason(number))
+    if (same && has_reason(number) && !run.overflowed && run.answer == answer)
         return;
-    if (!current_failed)
+    if (!current_failed) {
         print_failure(call, bytes, length, number, size);
+        printf("  on the small stack: %s\n", on_small_stack(run, answer));
+    }
     current_failed = true;
 }
 
@@ -140,6 +170,7 @@ void check_record_bytes(const char *what, const uint8_t *bytes, size_t length, u
 
 int check_report(void)
 {
+    printf("self-checks: %u hold\n", own_held);
     printf("%u passed, %u failed\n", passed, failed);
     return failed == 0 ? EXIT_SUCCESS : EXIT_FAILURE;
 }

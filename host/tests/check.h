@@ -4,6 +4,7 @@
 
 #include "../datagrams.h"
 
+#include <stdbool.h>
 #include <stddef.h>
 #include <stdint.h>
 
@@ -41,6 +42,12 @@ void sample_record(const struct datagram *record, uint32_t number);
 void check_record(const char *what, const struct datagram *record, uint32_t number);
 void check_record_bytes(const char *what, const uint8_t *bytes, size_t length, uint32_t number,
                         uint32_t size);
+
+/* A check of anything else. */
+void check_that(const char *what, bool holds);
+
+/* A check of the tests themselves, which is not counted among those that pass. */
+void check_own(const char *what, bool holds);
 
 /* Prints the counts as the last line; the status to exit with. */
 int check_report(void);

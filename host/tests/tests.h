@@ -23,4 +23,10 @@ void test_timing(void);
 /* Voice, message types 3 to 5: refused by live reading, taken by archive reading. */
 void test_voice(void);
 
+/* The small stack that the next one uses, by calls whose use of it is known. */
+void test_measuring(void);
+
+/* Every call on 8 KiB of stack. It comes last: it tells what the others have shown too. */
+void test_stack(void);
+
 #endif
