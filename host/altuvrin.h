@@ -22,8 +22,9 @@ extern "C" {
 #endif
 
 /*
- * The answer numbers of reading. The first that applies is given, in this order:
- *     Transmitter  1 2 3 4 5 6 7 8 9
+ * The answer numbers of reading, and 52, which is one of writing. The first that applies is given,
+ * in this order:
+ *     Transmitter  1 2 3 4 5 6 7 64 8 9
  *     Signal       1 2 3 4 10 11 12 8 131 132 133 134 135 136 137 138 50 14 15
  *     record       20 21 25 22
  * altuvrin_archive never gives 50, and has the same order without it.
@@ -33,8 +34,11 @@ enum altuvrin_answer {
     ALTUVRIN_TAKEN = 0,
     /* Fewer than 12 bytes. */
     ALTUVRIN_SHORT = 1,
-    /* The protocol version is neither 5 nor 6. */
+    /* The protocol version is neither 5, 6 nor 7. */
     ALTUVRIN_VERSION = 2,
+    /* In writing: a PDU status other than 0 with version 5 or 6, which have none. The calls below
+     * read, and do not give it. */
+    ALTUVRIN_STATUS = 52,
     /* The PDU type is neither 25 (Transmitter) nor 26 (Signal), or the family is not 4. */
     ALTUVRIN_TYPE = 3,
     /* The length field is not the datagram's length, or less than the fixed part:
@@ -47,6 +51,9 @@ enum altuvrin_answer {
     ALTUVRIN_MODULATION_LENGTH = 6,
     /* The length of the antenna pattern is not 0. */
     ALTUVRIN_PATTERN_LENGTH = 7,
+    /* A Transmitter of version 7 has variable parameter records: their number, in bytes 30 and 31,
+     * is not 0. In versions 5 and 6 these bytes are padding. */
+    ALTUVRIN_PARAMETER_RECORDS = 64,
     /* A Transmitter is not 112 bytes, or a Signal is not 32 bytes and its data bytes, filled to a
      * multiple of 4. */
     ALTUVRIN_PDU_SIZE = 8,
@@ -90,7 +97,9 @@ enum altuvrin_answer {
     /* The bytes after a record's number are not a PDU of its kind, as the writer gives it: a
      * Signal of message type 0 with 0 to 12 words, a Transmitter (kind 16), or a Signal of message
      * type 1 (kind 17) or 2 (kind 18); its padding zero, in types 1 and 2 also that inside the
-     * body, the upper 13 of its 48 bits. Types 3 to 7 have no kind. */
+     * body, the upper 13 of its 48 bits. Byte 10 of the PDU is padding in versions 5 and 6, and in
+     * version 7 the status, which may be any; byte 11 is padding in all. Types 3 to 7 have no
+     * kind. */
     ALTUVRIN_RECORD_PDU = 22,
     /* A record with a PDU has the number 4,294,967,295; a reply may have it. */
     ALTUVRIN_RECORD_NUMBER = 25
@@ -144,11 +153,13 @@ static inline const char *altuvrin_reason(uint32_t number)
     case ALTUVRIN_TAKEN: return "taken";
     case ALTUVRIN_SHORT: return "fewer than 12 bytes";
     case ALTUVRIN_VERSION: return "protocol version";
+    case ALTUVRIN_STATUS: return "status in version 5 or 6";
     case ALTUVRIN_TYPE: return "PDU type or family";
     case ALTUVRIN_LENGTH: return "length field";
     case ALTUVRIN_RADIO: return "category, input source, major, detail or system";
     case ALTUVRIN_MODULATION_LENGTH: return "modulation length";
     case ALTUVRIN_PATTERN_LENGTH: return "pattern length";
+    case ALTUVRIN_PARAMETER_RECORDS: return "variable parameter records";
     case ALTUVRIN_PDU_SIZE: return "size of the PDU";
     case ALTUVRIN_MODULATION: return "TSA level, modes, synchronization state or ID";
     case ALTUVRIN_ENCODING: return "encoding class";

@@ -42,7 +42,7 @@ static void make(struct datagram *datagram, size_t length, const struct setting 
 void make_transmitter(struct datagram *datagram)
 {
     const struct setting settings[] = {
-        {VERSION, LAST_VERSION},
+        {VERSION, LAST_VERSION_WITHOUT_STATUS},
         {PDU_TYPE, TRANSMITTER_TYPE},
         {FAMILY, RADIO_FAMILY},
         {CATEGORY, LINK_16_CATEGORY},
@@ -62,8 +62,12 @@ void make_transmitter(struct datagram *datagram)
 void make_signal(struct datagram *datagram, uint32_t message_type, size_t body_bytes)
 {
     const struct setting settings[] = {
-        {VERSION, LAST_VERSION},    {PDU_TYPE, SIGNAL_TYPE},      {FAMILY, RADIO_FAMILY},
-        {ENCODING, FIRST_ENCODING}, {TDL_TYPE, LINK_16_TDL_TYPE}, {MESSAGE_TYPE, message_type},
+        {VERSION, LAST_VERSION_WITHOUT_STATUS},
+        {PDU_TYPE, SIGNAL_TYPE},
+        {FAMILY, RADIO_FAMILY},
+        {ENCODING, FIRST_ENCODING},
+        {TDL_TYPE, LINK_16_TDL_TYPE},
+        {MESSAGE_TYPE, message_type},
     };
     make(datagram, SIGNAL_FIXED_SIZE + NETWORK_HEADER_SIZE, settings, COUNT(settings));
     resize_body(datagram, body_bytes);

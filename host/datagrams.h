@@ -1,7 +1,7 @@
 /*
  * Builds Link 16 datagrams for the example host and for the tests. Every number here stands in
  * document 01: "Bytes 0 to 19, both PDUs", "Transmitter, 112 bytes" and "Signal"; those of
- * round-trip timing in document 02, R-1, and those of voice in R-4.
+ * round-trip timing in document 02, R-1, those of voice in R-4, and those of version 7 in R-9.
  */
 #ifndef DATAGRAMS_H
 #define DATAGRAMS_H
@@ -23,12 +23,15 @@ static const struct field VERSION = {0, 1};
 static const struct field PDU_TYPE = {2, 1};
 static const struct field FAMILY = {3, 1};
 static const struct field LENGTH = {8, 2};
-static const struct field PADDING = {10, 2};
+/* Padding before version 7. */
+static const struct field STATUS = {10, 1};
+static const struct field PADDING = {11, 1};
 
 /* Transmitter. */
 static const struct field CATEGORY = {24, 1};
 static const struct field INPUT_SOURCE = {29, 1};
-static const struct field TRANSMITTER_PADDING = {30, 2};
+/* Padding before version 7. */
+static const struct field PARAMETER_RECORDS = {30, 2};
 static const struct field PATTERN_LENGTH = {70, 2};
 static const struct field MAJOR = {90, 2};
 static const struct field DETAIL = {92, 2};
@@ -58,7 +61,8 @@ static const struct field BODY_START = {52, 2};
 /* The values that a rule names. */
 enum {
     FIRST_VERSION = 5,
-    LAST_VERSION = 6,
+    LAST_VERSION_WITHOUT_STATUS = 6,
+    LAST_VERSION = 7,
     TRANSMITTER_TYPE = 25,
     SIGNAL_TYPE = 26,
     RADIO_FAMILY = 4,
@@ -126,10 +130,10 @@ void put(struct datagram *datagram, struct field field, uint32_t value);
 /* Cuts the datagram, or lengthens it by zeros; the length field follows where it can. */
 void resize(struct datagram *datagram, size_t length);
 
-/* A valid Transmitter of TSA level 3. */
+/* A valid Transmitter of version 6 and TSA level 3. */
 void make_transmitter(struct datagram *datagram);
 
-/* A Signal with a body of zeros; data length, fill and length field fit the body. */
+/* A Signal of version 6 with a body of zeros; data length, fill and length field fit the body. */
 void make_signal(struct datagram *datagram, uint32_t message_type, size_t body_bytes);
 
 /* A Signal of message type 0 with this many words. */

@@ -38,8 +38,14 @@ static void show_transmitters(void)
 {
     make_transmitter(&datagram);
     show("Transmitter", &datagram);
-    put(&datagram, VERSION, LAST_VERSION + 1);
+    put(&datagram, VERSION, LAST_VERSION);
+    put(&datagram, STATUS, 1);
     show("Transmitter of version 7", &datagram);
+    put(&datagram, PARAMETER_RECORDS, 1);
+    show("The same, a parameter record", &datagram);
+    make_transmitter(&datagram);
+    put(&datagram, VERSION, LAST_VERSION + 1);
+    show("Transmitter of version 8", &datagram);
     make_transmitter(&datagram);
     put(&datagram, TSA_LEVEL, LAST_LEVEL_WITHOUT_ID);
     put(&datagram, SYNC_ID, 1);
@@ -82,6 +88,11 @@ static void show_records(void)
     show_record("Record 5, Signal of type 2", &datagram);
     put(&datagram, carried(BODY_START), TIMING_PADDING);
     show_record("Record 5, padding in its body", &datagram);
+    make_record(&datagram, TRANSMITTER_KIND, 5);
+    put(&datagram, carried(STATUS), 1);
+    show_record("Record 5, version 6, byte 10", &datagram);
+    put(&datagram, carried(VERSION), LAST_VERSION);
+    show_record("Record 5, version 7, status", &datagram);
     make_record(&datagram, REPLY_KIND, 6);
     show_record("Reply 6", &datagram);
     datagram.length -= 1;

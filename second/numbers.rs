@@ -6,11 +6,13 @@
 pub enum Refusal {
     Short = 1,
     Version = 2,
+    Status = 52,
     TypeOrFamily = 3,
     Length = 4,
     Radio = 5,
     ModulationLength = 6,
     PatternLength = 7,
+    ParameterRecords = 64,
     PduSize = 8,
     Modulation = 9,
     Encoding = 10,

@@ -168,6 +168,11 @@ void check_record_bytes(const char *what, const uint8_t *bytes, size_t length, u
     check_end();
 }
 
+void check_reason(const char *what, uint32_t number)
+{
+    check_that(what, has_reason(number));
+}
+
 int check_report(void)
 {
     printf("self-checks: %u hold\n", own_held);

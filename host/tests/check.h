@@ -43,6 +43,9 @@ void check_record(const char *what, const struct datagram *record, uint32_t numb
 void check_record_bytes(const char *what, const uint8_t *bytes, size_t length, uint32_t number,
                         uint32_t size);
 
+/* A check that altuvrin_reason knows the number. */
+void check_reason(const char *what, uint32_t number);
+
 /* A check of anything else. */
 void check_that(const char *what, bool holds);
 

@@ -1,4 +1,5 @@
-/* The cases that document 01 lists under "Sizes and edges"; the numbers are that list's own. */
+/* The cases that document 01 lists under "Sizes and edges"; the numbers are that list's own, with
+ * those that document 02, R-2, R-3 and R-9, puts in their place. */
 #include "../altuvrin.h"
 #include "check.h"
 #include "tests.h"
@@ -19,8 +20,8 @@ static void test_starts(void)
     start(6);
     datagram.length = 11;
     check("11 bytes", &datagram, ALTUVRIN_SHORT);
-    start(7);
-    check("12 bytes, version 7", &datagram, ALTUVRIN_VERSION);
+    start(8);
+    check("12 bytes, version 8", &datagram, ALTUVRIN_VERSION);
     start(6);
     check("12 bytes, version 6, Signal, length 12", &datagram, ALTUVRIN_LENGTH);
 }

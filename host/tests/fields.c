@@ -1,4 +1,5 @@
-/* Each rule of document 01 on a field's value, by itself, and the fields that have no rule. */
+/* Each rule of document 01 and of document 02, R-3, R-4 and R-9, on a field's value, by itself, and
+ * the fields that have no rule. */
 #include "../altuvrin.h"
 #include "check.h"
 #include "tests.h"
@@ -87,6 +88,18 @@ static void test_transmitter_rules(void)
                 ALTUVRIN_MODULATION);
     check_range("secondary mode", SECONDARY_MODE, 0, LAST_SECONDARY_MODE, ALTUVRIN_MODULATION);
     check_range("synchronization state", SYNC_STATE, COARSE, FINE, ALTUVRIN_MODULATION);
+}
+
+/* Bytes 30 and 31 of a Transmitter: a count in version 7, padding before. */
+static void test_parameter_records(void)
+{
+    make_transmitter(&datagram);
+    put(&datagram, VERSION, FIRST_VERSION);
+    check_range("parameter records, version 5", PARAMETER_RECORDS, 0, 65535, ALTUVRIN_TAKEN);
+    put(&datagram, VERSION, LAST_VERSION_WITHOUT_STATUS);
+    check_range("parameter records, version 6", PARAMETER_RECORDS, 0, 65535, ALTUVRIN_TAKEN);
+    put(&datagram, VERSION, LAST_VERSION);
+    check_value("parameter records, version 7", PARAMETER_RECORDS, 0, ALTUVRIN_PARAMETER_RECORDS);
 }
 
 /* One check: of all message types, 0 to 2, 6 and 7 are taken; archive reading takes 3 to 5 too. */
@@ -188,14 +201,32 @@ static void check_any(const char *what, const struct range *bytes, size_t count)
     check_end();
 }
 
+/* In version 7 byte 10 is kept, and bytes 30 and 31 of a Transmitter have a rule. */
+static void test_padding_of_version_7(void)
+{
+    static const struct range transmitter[] = {{10, 11}, {101, 103}};
+    static const struct range signal[] = {{10, 11}, {38, 39}, {58, 59}};
+    make_transmitter(&datagram);
+    put(&datagram, VERSION, LAST_VERSION);
+    check_any("status and padding of a Transmitter, version 7", transmitter, COUNT(transmitter));
+    make_words(&datagram, 0);
+    put(&datagram, VERSION, LAST_VERSION);
+    check_any("status, padding and fill of a Signal, version 7", signal, COUNT(signal));
+}
+
 static void test_padding(void)
 {
     static const struct range transmitter[] = {{10, 11}, {30, 31}, {101, 103}};
     static const struct range signal[] = {{10, 11}, {38, 39}, {58, 59}};
     make_transmitter(&datagram);
-    check_any("padding of a Transmitter", transmitter, COUNT(transmitter));
+    check_any("padding of a Transmitter, version 6", transmitter, COUNT(transmitter));
+    put(&datagram, VERSION, FIRST_VERSION);
+    check_any("padding of a Transmitter, version 5", transmitter, COUNT(transmitter));
     make_words(&datagram, 0);
-    check_any("padding and fill of a Signal", signal, COUNT(signal));
+    put(&datagram, VERSION, FIRST_VERSION);
+    check_any("padding and fill of a Signal, version 5", signal, COUNT(signal));
+    make_words(&datagram, 0);
+    check_any("padding and fill of a Signal, version 6", signal, COUNT(signal));
     put(&datagram, SLOT_ID, slot_id(LAST_EPOCH, LAST_SLOT_OF_LAST_EPOCH) | SLOT_ID_PADDING);
     check("padding of a slot ID taken", &datagram, ALTUVRIN_TAKEN);
     put(&datagram, SLOT_ID, slot_id(LAST_EPOCH, LAST_SLOT_OF_LAST_EPOCH + 1) | SLOT_ID_PADDING);
@@ -217,9 +248,11 @@ static void test_kept(void)
 void test_fields(void)
 {
     test_transmitter_rules();
+    test_parameter_records();
     test_signal_rules();
     test_ids();
     test_slots();
     test_padding();
+    test_padding_of_version_7();
     test_kept();
 }

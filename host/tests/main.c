@@ -11,6 +11,7 @@ int main(void)
     test_records();
     test_timing();
     test_voice();
+    test_versions();
     test_measuring();
     test_stack();
     return check_report();

@@ -1,8 +1,8 @@
 /*
  * The order of refusals: of the rules that a datagram or a record breaks, the first in the order
- * gives the number (document 01, "The numbers" and "Sizes and edges"; document 02, R-3 and R-4).
- * Rules are broken from the last to the first, because the later ones speak of what lies deeper in
- * the bytes.
+ * gives the number (document 01, "The numbers" and "Sizes and edges"; document 02, R-3, R-4 and
+ * R-9). Rules are broken from the last to the first, because the later ones speak of what lies
+ * deeper in the bytes.
  */
 #include "../altuvrin.h"
 #include "../records.h"
@@ -26,6 +26,12 @@ static void make_voice_of_257_bytes(void)
 static void make_level_3_transmitter(void)
 {
     make_transmitter(&datagram);
+}
+
+static void make_version_7_transmitter(void)
+{
+    make_transmitter(&datagram);
+    put(&datagram, VERSION, LAST_VERSION);
 }
 
 static void cut_to_11_bytes(void)
@@ -146,6 +152,25 @@ static void test_transmitter_order(void)
     check_order(&kind);
 }
 
+static void test_version_7_order(void)
+{
+    const struct breaker breakers[] = {
+        {ALTUVRIN_SHORT, cut_to_11_bytes, {0, 0}, 0},
+        {ALTUVRIN_VERSION, NULL, VERSION, LAST_VERSION + 1},
+        {ALTUVRIN_TYPE, NULL, PDU_TYPE, TRANSMITTER_TYPE - 1},
+        {ALTUVRIN_LENGTH, break_length, {0, 0}, 0},
+        {ALTUVRIN_RADIO, NULL, CATEGORY, LINK_16_CATEGORY + 1},
+        {ALTUVRIN_MODULATION_LENGTH, NULL, MODULATION_LENGTH, 0},
+        {ALTUVRIN_PATTERN_LENGTH, NULL, PATTERN_LENGTH, NO_PATTERN + 1},
+        {ALTUVRIN_PARAMETER_RECORDS, NULL, PARAMETER_RECORDS, 1},
+        {ALTUVRIN_PDU_SIZE, break_size, {0, 0}, 0},
+        {ALTUVRIN_MODULATION, NULL, TSA_LEVEL, LAST_TSA_LEVEL + 1},
+    };
+    const struct kind kind = {"Transmitter of version 7", check, make_version_7_transmitter,
+                              breakers, COUNT(breakers)};
+    check_order(&kind);
+}
+
 static void test_signal_order(void)
 {
     const struct breaker breakers[] = {
@@ -197,6 +222,7 @@ static void test_record_order(void)
 void test_order(void)
 {
     test_transmitter_order();
+    test_version_7_order();
     test_signal_order();
     test_record_order();
 }

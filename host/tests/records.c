@@ -1,5 +1,5 @@
-/* Trunk records: document 01, "The trunk" and the numbers 20, 21, 22 and 25; document 02, R-1 and
- * R-4. */
+/* Trunk records: document 01, "The trunk" and the numbers 20, 21, 22 and 25; document 02, R-1, R-4
+ * and R-9. */
 #include "../records.h"
 #include "../altuvrin.h"
 #include "check.h"
@@ -112,45 +112,71 @@ static void test_numbers(void)
     }
 }
 
-/* Samples: each bit of a carried field that is padding. */
-static void sample_padding(struct field field, uint32_t padding)
+/* Samples: each of these bits of a carried field, flipped, gives this number. */
+static void sample_bits(struct field field, uint32_t bits, uint32_t number)
 {
     uint32_t before = get(&record, carried(field));
     for (uint32_t bit = 0; bit < 8 * field.width; bit++) {
-        if ((padding >> bit & 1) == 0)
+        if ((bits >> bit & 1) == 0)
             continue;
         put(&record, carried(field), before ^ (uint32_t)1 << bit);
-        sample_record(&record, ALTUVRIN_RECORD_PDU);
+        sample_record(&record, number);
     }
     put(&record, carried(field), before);
 }
 
+/* Samples: each bit of a carried field that is padding. */
+static void sample_padding(struct field field, uint32_t padding)
+{
+    sample_bits(field, padding, ALTUVRIN_RECORD_PDU);
+}
+
 static const uint32_t all = UINT32_MAX;
 
-/* One check: a Signal's padding, the fill behind its body, and what is padding inside it. */
+/* Gives the PDU this version. Samples: byte 10, padding or a status, and byte 11. */
+static void sample_start(uint32_t version)
+{
+    bool status = version > LAST_VERSION_WITHOUT_STATUS;
+    put(&record, carried(VERSION), version);
+    sample_bits(STATUS, all, status ? ALTUVRIN_TAKEN : ALTUVRIN_RECORD_PDU);
+    sample_padding(PADDING, all);
+}
+
+/* One check: a Signal's padding in each version, the fill behind its body, and what is padding
+ * inside it. */
 static void check_signal_padding(uint32_t kind, size_t body_end, uint32_t in_body)
 {
     make_record(&record, kind, 0);
     check_begin(name("padding and fill", kind));
-    sample_padding(PADDING, all);
-    sample_padding(MESSAGE_TYPE_PADDING, all);
-    sample_padding(SLOT_ID, SLOT_ID_PADDING);
-    sample_padding(BODY_START, in_body);
-    for (size_t at = body_end; at < record.length - RECORD_HEAD_SIZE; at++)
-        sample_padding((struct field){at, 1}, all);
-    sample_record(&record, ALTUVRIN_TAKEN);
+    for (uint32_t version = FIRST_VERSION; version <= LAST_VERSION; version++) {
+        sample_start(version);
+        sample_padding(MESSAGE_TYPE_PADDING, all);
+        sample_padding(SLOT_ID, SLOT_ID_PADDING);
+        sample_padding(BODY_START, in_body);
+        for (size_t at = body_end; at < record.length - RECORD_HEAD_SIZE; at++)
+            sample_padding((struct field){at, 1}, all);
+        sample_record(&record, ALTUVRIN_TAKEN);
+    }
+    check_end();
+}
+
+/* One check: the same of a Transmitter. In version 7 the reader refuses parameter records. */
+static void check_transmitter_padding(void)
+{
+    make_record(&record, TRANSMITTER_KIND, 0);
+    check_begin(name("padding", TRANSMITTER_KIND));
+    for (uint32_t version = FIRST_VERSION; version <= LAST_VERSION; version++) {
+        sample_start(version);
+        sample_padding(PARAMETER_RECORDS, all);
+        sample_padding(MODULATION_PADDING, all);
+        sample_record(&record, ALTUVRIN_TAKEN);
+    }
     check_end();
 }
 
 static void test_padding(void)
 {
-    make_record(&record, TRANSMITTER_KIND, 0);
-    check_begin(name("padding", TRANSMITTER_KIND));
-    sample_padding(PADDING, all);
-    sample_padding(TRANSMITTER_PADDING, all);
-    sample_padding(MODULATION_PADDING, all);
-    sample_record(&record, ALTUVRIN_TAKEN);
-    check_end();
+    check_transmitter_padding();
     for (uint32_t words = 0; words <= WORDS_MAX; words++)
         check_signal_padding(words, 58 + WORD_SIZE * words, 0);
     check_signal_padding(RTT_KIND, 58, TIMING_PADDING);

@@ -25,6 +25,7 @@
     ALTUVRIN_RADIO, \
     ALTUVRIN_PATTERN_LENGTH, \
     ALTUVRIN_MODULATION_LENGTH, \
+    ALTUVRIN_PARAMETER_RECORDS, \
     ALTUVRIN_PDU_SIZE, \
     ALTUVRIN_MODULATION, \
     ALTUVRIN_ENCODING, \
@@ -163,6 +164,8 @@ static void try_pdus(void)
 {
     make_transmitter(&datagram);
     try_forms(&datagram);
+    put(&datagram, VERSION, LAST_VERSION);
+    try_forms(&datagram);
     for (size_t words = 0; words <= WORDS_MAX + 1; words++) {
         make_words(&datagram, words);
         try_forms(&datagram);
@@ -177,7 +180,7 @@ static void try_pdus(void)
     try_forms(&datagram);
 }
 
-/* Records of every kind, and of kinds that are none. */
+/* Records of every kind, and of kinds that are none; with a status too, in version 7. */
 static void try_records(void)
 {
     for (uint32_t kind = 0; kind <= REPLY_KIND; kind++) {
@@ -186,6 +189,11 @@ static void try_records(void)
         if (RTT_REPLY_KIND < kind && kind < REPLY_KIND)
             continue;
         make_record(&datagram, kind, NO_PDU_NUMBER - 1);
+        try_forms(&datagram);
+        if (kind == REPLY_KIND)
+            continue;
+        put(&datagram, carried(VERSION), LAST_VERSION);
+        put(&datagram, carried(STATUS), 255);
         try_forms(&datagram);
     }
 }
@@ -210,7 +218,7 @@ static void try_random(uint64_t seed, size_t count)
             datagram.bytes[at] = (uint8_t)random_number(&state);
         datagram.length = length;
         if (i % 4 != 0 && length >= START_SIZE) {
-            put(&datagram, VERSION, LAST_VERSION);
+            put(&datagram, VERSION, FIRST_VERSION + (uint32_t)(i % 3));
             put(&datagram, PDU_TYPE, i % 2 == 0 ? TRANSMITTER_TYPE : SIGNAL_TYPE);
             put(&datagram, FAMILY, RADIO_FAMILY);
             put(&datagram, LENGTH, (uint32_t)length);

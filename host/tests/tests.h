@@ -23,6 +23,9 @@ void test_timing(void);
 /* Voice, message types 3 to 5: refused by live reading, taken by archive reading. */
 void test_voice(void);
 
+/* Protocol versions 5, 6 and 7: the status, and the count of parameter records. */
+void test_versions(void);
+
 /* The small stack that the next one uses, by calls whose use of it is known. */
 void test_measuring(void);
 

@@ -39,6 +39,7 @@ impl Fields for Header {
             .number(&mut self.version)
             .number(&mut self.exercise)
             .number(&mut self.timestamp)
+            .number(&mut self.status)
             .number(&mut self.site)
             .number(&mut self.application)
             .number(&mut self.entity)

@@ -4,6 +4,7 @@ use super::outputs::cut;
 use super::program;
 use super::shrink::shrink;
 use super::tally::{Name, Often, Tally};
+use super::versions::VersionCounts;
 use crate::check::{Claim, Report};
 use crate::codec::fields::{Fields, Visit, Visitor};
 use crate::codec::{self, Line};
@@ -11,6 +12,7 @@ use crate::generate::codec_cases;
 use crate::generate::codec_lines::CodecLines;
 use crate::numbers::Refusal;
 use crate::pdu::read::{read, read_archive};
+use crate::pdu::write::write;
 use crate::pdu::Pdu;
 use std::path::Path;
 use std::process::ExitCode;
@@ -34,8 +36,8 @@ const ANSWERS: &[(&str, &[&str])] = &[
     (
         "read",
         &[
-            "1", "2", "3", "4", "5", "6", "7", "9", "10", "11", "12", "8", "131", "132", "133",
-            "134", "135", "136", "137", "138", "50", "14", "15",
+            "1", "2", "3", "4", "5", "6", "7", "64", "9", "10", "11", "12", "8", "131", "132",
+            "133", "134", "135", "136", "137", "138", "50", "14", "15",
         ],
     ),
     (
@@ -52,8 +54,8 @@ const ANSWERS: &[(&str, &[&str])] = &[
     (
         "archive",
         &[
-            "1", "2", "3", "4", "5", "6", "7", "9", "10", "11", "12", "8", "131", "132", "133",
-            "134", "135", "136", "137", "138", "14", "15",
+            "1", "2", "3", "4", "5", "6", "7", "64", "9", "10", "11", "12", "8", "131", "132",
+            "133", "134", "135", "136", "137", "138", "14", "15",
         ],
     ),
     (
@@ -70,12 +72,12 @@ const ANSWERS: &[(&str, &[&str])] = &[
             "signal 7",
         ],
     ),
-    ("transmitter", &["2", "9", "16", "written"]),
+    ("transmitter", &["2", "52", "9", "16", "written"]),
     (
         "signal",
         &[
-            "2", "10", "131", "132", "133", "134", "135", "136", "137", "138", "50", "14", "15",
-            "16", "written",
+            "2", "52", "10", "131", "132", "133", "134", "135", "136", "137", "138", "50", "14",
+            "15", "16", "written",
         ],
     ),
     ("line", &["bad"]),
@@ -213,6 +215,7 @@ pub fn run(program: &Path, seed: u64, count: u64) -> Result<ExitCode, String> {
     println!("seed {seed}, {count} lines");
     let mut generator = CodecLines::new(seed);
     let mut extremes = Extremes::default();
+    let mut versions = Versions::default();
     let mut comparison = Comparison {
         program,
         tally: Tally::new(ANSWERS),
@@ -227,7 +230,10 @@ pub fn run(program: &Path, seed: u64, count: u64) -> Result<ExitCode, String> {
         while lines.len() < LINES_OF_A_RUN.min((count - done) as usize) {
             lines.extend(generator.next());
         }
-        lines.iter().for_each(|line| extremes.add(line));
+        for line in &lines {
+            extremes.add(line);
+            versions.add(line);
+        }
         let input: String = lines.iter().map(|line| format!("{line}\n")).collect();
         comparison.compare(&input)?;
         done += lines.len() as u64;
@@ -242,6 +248,7 @@ pub fn run(program: &Path, seed: u64, count: u64) -> Result<ExitCode, String> {
     comparison.tally.report(least, &mut report);
     report.count(&comparison.all_agree());
     extremes.report(least, &mut report);
+    versions.report(least, &mut report);
     Ok(report.finish())
 }
 
@@ -255,6 +262,36 @@ pub fn compare_input(program: &Path, file: &str) -> Result<ExitCode, String> {
     }
     outputs.print_differences(&input);
     Ok(ExitCode::from(u8::from(outputs.differ())))
+}
+
+/// The versions of what is read and of what is written.
+#[derive(Default)]
+struct Versions {
+    read: VersionCounts,
+    written: VersionCounts,
+}
+
+impl Versions {
+    fn add(&mut self, line: &Line) {
+        match line {
+            Line::Read(datagram) if read(datagram).is_ok() => self.read.count(datagram),
+            Line::Read(_) | Line::Archive(_) => {}
+            Line::WriteTransmitter(record, room) => self.write(&Pdu::Transmitter(*record), *room),
+            Line::WriteSignal(record, body, room) => self.write(&Pdu::Signal(*record, body), *room),
+        }
+    }
+
+    fn write(&mut self, pdu: &Pdu, room: usize) {
+        let mut output = vec![0; room];
+        if write(pdu, &mut output).is_ok() {
+            self.written.count(&output);
+        }
+    }
+
+    fn report(&self, least: u64, report: &mut Report) {
+        self.read.report("read", least, report);
+        self.written.report("written", least, report);
+    }
 }
 
 /// How often each field of the records to be written was 0, and the largest of its type.

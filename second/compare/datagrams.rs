@@ -4,6 +4,7 @@
 use super::answers::{self, Comparison, Subject};
 use super::archive_reading::{ArchiveReading, ARCHIVE_READING};
 use super::self_check::SelfChecks;
+use super::versions::DatagramVersions;
 use crate::archive;
 use crate::check::Report;
 use crate::generate::datagrams::Generator;
@@ -16,7 +17,7 @@ pub const DEFAULT_COUNT: u64 = 1_000_000;
 /// before the kind of PDU is known. Signals of types 1 to 5 are told apart where rules of their own
 /// decide.
 pub const DATAGRAM: &[u32] = &[1, 2, 3];
-pub const TRANSMITTER: &[u32] = &[4, 5, 6, 7, 8, 9, 0];
+pub const TRANSMITTER: &[u32] = &[4, 5, 6, 7, 64, 8, 9, 0];
 pub const SIGNAL: &[u32] = &[
     4, 10, 11, 12, 8, 131, 132, 133, 134, 135, 136, 137, 138, 14, 15, 0,
 ];
@@ -70,6 +71,7 @@ pub fn run(seed: u64, count: u64) -> ExitCode {
     let mut generator = Generator::new(seed);
     let mut self_checks = SelfChecks::new();
     let mut archive_reading = ArchiveReading::new();
+    let mut versions = DatagramVersions::new();
     let mut comparisons =
         [&DATAGRAMS, &ARCHIVE_READING].map(|subject| Comparison::new(subject, seed));
     let mut report = Report::default();
@@ -80,6 +82,7 @@ pub fn run(seed: u64, count: u64) -> ExitCode {
         || generator.datagram(),
         |datagram| {
             archive_reading.datagram(datagram);
+            versions.datagram(datagram);
             self_checks.datagram(datagram);
         },
     );
@@ -88,6 +91,7 @@ pub fn run(seed: u64, count: u64) -> ExitCode {
         comparison.report(least, &mut report);
     }
     archive_reading.report(least, &mut report);
+    versions.report(least, &mut report);
     self_checks.finish(&mut generator, &mut report);
     report.finish()
 }

@@ -4,6 +4,7 @@
 
 use super::self_check::MARK;
 use super::timing_cases;
+use super::version_cases;
 use super::voice_cases;
 use crate::check::{Claim, Report};
 use crate::numbers::{self, Refusal};
@@ -43,6 +44,7 @@ pub fn run(report: &mut Report) {
         ("the last number", last_number),
     ];
     let later = timing_cases::CASES.into_iter().chain(voice_cases::CASES);
+    let later = later.chain(version_cases::CASES);
     for (what, case) in cases.into_iter().chain(later) {
         let mut trial = Trial::new(what);
         case(&mut trial);
@@ -292,7 +294,7 @@ pub struct Ends {
     pub near: NearEnd,
     pub store: [u8; STORE_SIZE],
     far: FarEnd,
-    output: [u8; PDU_SIZE_MAX],
+    pub output: [u8; PDU_SIZE_MAX],
     reply: [u8; REPLY_SIZE],
 }
 
@@ -312,7 +314,7 @@ impl Ends {
         self.near.offer(&mut self.store, &datagram)
     }
 
-    fn send(&self, number: u32) -> Result<Vec<u8>, Refusal> {
+    pub fn send(&self, number: u32) -> Result<Vec<u8>, Refusal> {
         let mut output = vec![0; Kind::Transmitter.size()];
         self.near.send(&self.store, number, &mut output)?;
         Ok(output)

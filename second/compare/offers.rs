@@ -1,8 +1,9 @@
 //! What offers of Signals of message types 1 to 7 gave, which the printed lines alone do not tell:
 //! types 1 and 2 are carried and have a body size of their own, types 3 to 5 are retired, types 6 and
-//! 7 are not carried.
+//! 7 are not carried. And the versions of what is taken and put out.
 
 use super::tally::{Name, Tally};
+use super::versions::VersionCounts;
 use crate::check::Report;
 use crate::pdu::{layout, SIGNAL_TYPE};
 use crate::trunk::script::{self, Line, Outcome};
@@ -17,30 +18,48 @@ const ANSWERS: [(&str, &[&str]); 7] = [
     ("type 7", &["23"]),
 ];
 
-pub struct Offers(Tally);
+pub struct Offers {
+    message_types: Tally,
+    taken: VersionCounts,
+    put_out: VersionCounts,
+}
 
 impl Offers {
     pub fn new() -> Self {
-        Offers(Tally::new(&ANSWERS))
+        Offers {
+            message_types: Tally::new(&ANSWERS),
+            taken: VersionCounts::default(),
+            put_out: VersionCounts::default(),
+        }
     }
 
     /// Adds a script with what is printed for it.
     pub fn add(&mut self, script: &[u8], output: &str) {
         let (lines, _) = script::parse(script);
-        let offers = lines.iter().zip(output.lines()).filter_map(name);
-        offers.for_each(|name| self.0.count(&name, false));
+        for (line, printed) in lines.iter().zip(output.lines()) {
+            if let Some(name) = name(line, printed) {
+                self.message_types.count(&name, false);
+            }
+            match (line, Outcome::parse(printed)) {
+                (Line::Offer(datagram), Some(Outcome::Offered(_))) => self.taken.count(datagram),
+                (_, Some(Outcome::Delivered { pdu, .. })) => self.put_out.count(&pdu),
+                _ => {}
+            }
+        }
     }
 
-    /// Prints the table and counts a check for each row.
+    /// Prints the table and counts a check for each row, and for the versions.
     pub fn report(&self, least: u64, report: &mut Report) {
         println!("offers by message type");
-        self.0.print();
-        self.0.report(least, report);
+        self.message_types.print();
+        self.message_types.report(least, report);
+        self.taken.report("offered", least, report);
+        self.put_out.report("put out", least, report);
     }
 }
 
 /// The row of an offer; none where another rule decided, or the type is 0.
-fn name((line, printed): (&Line, &str)) -> Option<Name> {
+fn name(line: &Line, printed: &str) -> Option<Name> {
     let Line::Offer(datagram) = line else {
         return None;
     };

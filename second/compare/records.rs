@@ -2,6 +2,7 @@
 
 use super::answers::{self, Comparison, Subject};
 use super::self_check::MARK;
+use super::versions::RecordVersions;
 use crate::archive;
 use crate::check::{Claim, Report};
 use crate::generate::records::RecordGenerator;
@@ -65,6 +66,7 @@ fn about(bytes: &[u8], number: u32) -> String {
 pub fn run(seed: u64, count: u64) -> ExitCode {
     let mut generator = RecordGenerator::new(seed);
     let mut written_again = Claim::new("a record that is taken is written as it was read");
+    let mut versions = RecordVersions::new();
     let mut comparison = Comparison::new(&RECORDS, seed);
     let mut report = Report::default();
     answers::run(
@@ -72,9 +74,14 @@ pub fn run(seed: u64, count: u64) -> ExitCode {
         RECORDS.name,
         (seed, count),
         || generator.record(),
-        |bytes| check_written_again(bytes, &mut written_again),
+        |bytes| {
+            versions.record(bytes);
+            check_written_again(bytes, &mut written_again);
+        },
     );
-    comparison.report(answers::least(count), &mut report);
+    let least = answers::least(count);
+    comparison.report(least, &mut report);
+    versions.report(least, &mut report);
     report.count_own(&written_again);
     report.count_own(&sizes());
     report.finish()

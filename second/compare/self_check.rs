@@ -1,5 +1,6 @@
 //! Checks of the second program on itself: its reader, its writer and the written form agree.
 
+use super::version_check::VersionChecks;
 use super::voice_check::VoiceChecks;
 use super::writer_check;
 use crate::check::{Claim, Report};
@@ -15,7 +16,8 @@ use crate::pdu::{self, Header, Modulation, NetworkHeader, Pdu, Signal, Transmitt
 pub const MARK: u8 = 0xA5;
 const SPARE: usize = 8;
 
-/// Claims about every datagram that is taken, and about archive reading of every datagram.
+/// Claims about every datagram that is taken, and about both readings and all versions of every
+/// datagram.
 pub struct SelfChecks {
     /// So many bodies had padding inside that was not zero.
     padded_bodies: u64,
@@ -25,6 +27,7 @@ pub struct SelfChecks {
     only_named: Claim,
     short_output: Claim,
     voice: VoiceChecks,
+    versions: VersionChecks,
 }
 
 impl SelfChecks {
@@ -37,12 +40,14 @@ impl SelfChecks {
             only_named: Claim::new("a write changes only the bytes of the PDU"),
             short_output: Claim::new("an output too short is refused and left alone"),
             voice: VoiceChecks::new(),
+            versions: VersionChecks::new(),
         }
     }
 
     /// Tries the claims on one datagram; one that is refused has no part in most of them.
     pub fn datagram(&mut self, datagram: &[u8]) {
         self.voice.datagram(datagram);
+        self.versions.datagram(datagram);
         let Ok(pdu) = read(datagram) else {
             return;
         };
@@ -92,6 +97,7 @@ impl SelfChecks {
             &Pdu::Signal(signal, body),
             report,
         );
+        check_known_version_7(report);
         for message_type in [1, 2] {
             check_known_timing(message_type, report);
         }
@@ -99,6 +105,7 @@ impl SelfChecks {
             check_known_voice(message_type, report);
         }
         self.voice.finish(report);
+        self.versions.finish(report);
         writer_check::run(generator, report);
     }
 }
@@ -152,6 +159,7 @@ const KNOWN_HEADER: Header = Header {
     version: 6,
     exercise: 1,
     timestamp: 0x0405_0607,
+    status: 0,
     site: 0x0C0D,
     application: 0x0E0F,
     entity: 0x1011,
@@ -226,6 +234,26 @@ fn known_signal() -> (Vec<u8>, Signal) {
         (layout::MESSAGE_TYPE, 0),
     ];
     (numbered_bytes(KNOWN_BODY_END, &fields), KNOWN_SIGNAL)
+}
+
+/// The known datagrams in version 7: byte 10 is the status, and of a Transmitter bytes 30 and 31 are 0.
+fn check_known_version_7(report: &mut Report) {
+    const HEADER: Header = Header {
+        version: 7,
+        status: 0x0A,
+        ..KNOWN_HEADER
+    };
+    let (mut datagram, mut transmitter) = known_transmitter();
+    layout::VERSION.put(&mut datagram, 7);
+    layout::PARAMETER_RECORDS.put(&mut datagram, 0);
+    transmitter.header = HEADER;
+    let pdu = Pdu::Transmitter(transmitter);
+    check_known("a known Transmitter of version 7", &datagram, &pdu, report);
+    let (mut datagram, mut signal) = known_signal();
+    layout::VERSION.put(&mut datagram, 7);
+    signal.header = HEADER;
+    let pdu = Pdu::Signal(signal, &datagram[KNOWN_BODY_START..KNOWN_BODY_END]);
+    check_known("a known Signal of version 7", &datagram, &pdu, report);
 }
 
 /// A Signal of round-trip timing. Of its body 34 35 36 37 38 39 (hex) the upper 13 bits are padding.

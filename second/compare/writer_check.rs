@@ -1,5 +1,5 @@
 //! Checks that the second program's writer refuses with the right number and leaves the output
-//! as it was (document 01, "The numbers", the order of writing; document 02, R-1 and R-4).
+//! as it was (document 01, "The numbers", the order of writing; document 02, R-1, R-4 and R-9).
 
 use super::self_check::MARK;
 use crate::check::{Claim, Report};
@@ -24,9 +24,12 @@ struct Draft<R> {
 type Breaker<R> = (u32, fn(&mut Draft<R>));
 
 /// In the order of refusals.
-const TRANSMITTER_BREAKERS: [Breaker<Transmitter>; 10] = [
-    (2, |d| d.record.header.version = VERSIONS[0] - 1),
-    (2, |d| d.record.header.version = VERSIONS[1] + 1),
+const TRANSMITTER_BREAKERS: [Breaker<Transmitter>; 13] = [
+    (2, |d| d.record.header.version = 4),
+    (2, |d| d.record.header.version = 8),
+    (52, |d| set_status(&mut d.record.header, 5, 1)),
+    (52, |d| set_status(&mut d.record.header, 6, 1)),
+    (52, |d| set_status(&mut d.record.header, 6, 255)),
     (9, |d| d.record.modulation.tsa_level = LAST_TSA_LEVEL + 1),
     (9, |d| {
         d.record.modulation.primary_mode = PRIMARY_MODES[0] - 1
@@ -47,9 +50,12 @@ const TRANSMITTER_BREAKERS: [Breaker<Transmitter>; 10] = [
 ];
 
 /// In the order of refusals.
-const SIGNAL_BREAKERS: [Breaker<Signal>; 27] = [
-    (2, |d| d.record.header.version = VERSIONS[0] - 1),
-    (2, |d| d.record.header.version = VERSIONS[1] + 1),
+const SIGNAL_BREAKERS: [Breaker<Signal>; 30] = [
+    (2, |d| d.record.header.version = 4),
+    (2, |d| d.record.header.version = 8),
+    (52, |d| set_status(&mut d.record.header, 5, 1)),
+    (52, |d| set_status(&mut d.record.header, 6, 1)),
+    (52, |d| set_status(&mut d.record.header, 6, 255)),
     (10, |d| d.record.encoding = LAST_ENCODING + 1),
     (10, |d| d.record.encoding = u16::MAX),
     (131, |d| d.record.network.npg = LAST_NPG + 1),
@@ -83,6 +89,11 @@ const SIGNAL_BREAKERS: [Breaker<Signal>; 27] = [
 
 /// The largest body of type 0.
 const WORDS_SIZE_MAX: usize = words_size(WORDS_MAX);
+
+fn set_status(header: &mut Header, version: u8, status: u8) {
+    header.version = version;
+    header.status = status;
+}
 
 fn set_slot(draft: &mut Draft<Signal>, epoch: u8, slot: u32) {
     draft.record.network.epoch = epoch;

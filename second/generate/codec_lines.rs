@@ -62,7 +62,7 @@ impl CodecLines {
         };
         let mut record = drawn;
         record.visit(&mut Visit(&mut Extremes(&mut self.random)));
-        record.header.version = drawn.header.version;
+        self.version_and_status(&mut record.header, &drawn.header);
         let sync_id = record.modulation.sync_id;
         record.modulation = drawn.modulation;
         if drawn.modulation.tsa_level > LAST_LEVEL_WITHOUT_ID {
@@ -82,7 +82,7 @@ impl CodecLines {
         };
         let mut record = drawn;
         record.visit(&mut Visit(&mut Extremes(&mut self.random)));
-        record.header.version = drawn.header.version;
+        self.version_and_status(&mut record.header, &drawn.header);
         record.encoding = drawn.encoding;
         record.network = NetworkHeader {
             transmit_time: record.network.transmit_time,
@@ -95,6 +95,15 @@ impl CodecLines {
         let room = self.room(pdu.size().min(BYTES_MAX));
         let line = Line::WriteSignal(record, body.clone(), room);
         with_read_back(line, &pdu, room)
+    }
+
+    /// The version is the one drawn. The status, which may be the largest, is most often left out of
+    /// versions 5 and 6.
+    fn version_and_status(&mut self, header: &mut Header, drawn: &Header) {
+        header.version = drawn.version;
+        if !has_status(drawn.version) && !self.random.one_in(4) {
+            header.status = 0;
+        }
     }
 
     /// In half of the records one field takes another value.

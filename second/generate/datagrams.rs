@@ -34,9 +34,13 @@ const SIZES: [usize; 5] = [
 
 /// Type and length depend on the kind of PDU; their ranges serve to damage them.
 fn start_fields() -> Vec<Ruled> {
-    let [first, last] = pdu::VERSIONS;
+    let [first, last_without_status, last] = pdu::VERSIONS;
     vec![
-        ruled(layout::VERSION, &[(first, last)]),
+        // Version 7 as often as the others together.
+        ruled(
+            layout::VERSION,
+            &[(first, last_without_status), (last, last)],
+        ),
         ruled(
             layout::PDU_TYPE,
             &[(pdu::TRANSMITTER_TYPE, pdu::SIGNAL_TYPE)],
@@ -55,6 +59,7 @@ fn transmitter_fields() -> Vec<Ruled> {
     vec![
         single(layout::CATEGORY, link_16.category),
         single(layout::INPUT_SOURCE, link_16.input_source),
+        single(layout::PARAMETER_RECORDS, link_16.parameter_records),
         single(layout::PATTERN_LENGTH, link_16.pattern_length),
         single(layout::MAJOR, link_16.major),
         single(layout::DETAIL, link_16.detail),
@@ -161,6 +166,9 @@ impl Generator {
     pub fn transmitter(&mut self) -> Vec<u8> {
         let mut bytes = self.pdu_of(pdu::TRANSMITTER_TYPE, pdu::TRANSMITTER_SIZE);
         put_allowed(&mut self.random, &self.transmitter, &mut bytes);
+        if !layout::has_status(&bytes) {
+            layout::PARAMETER_RECORDS.put(&mut bytes, self.random.next());
+        }
         let last_without = u64::from(pdu::LAST_LEVEL_WITHOUT_ID);
         if layout::TSA_LEVEL.get(&bytes) > Some(last_without) && !self.random.one_in(4) {
             layout::SYNC_ID.put(&mut bytes, self.random.next());
@@ -285,10 +293,15 @@ impl Generator {
         slot_id | self.random.next() & layout::SLOT_ID_PADDING
     }
 
-    /// Random bytes with a valid start.
+    /// Random bytes with a valid start; the status and the padding after it are often zero.
     fn pdu_of(&mut self, pdu_type: u8, size: usize) -> Vec<u8> {
         let mut bytes = self.random.bytes(size);
         put_allowed(&mut self.random, &self.start, &mut bytes);
+        for field in [layout::STATUS, layout::START_PADDING] {
+            if self.random.one_in(3) {
+                field.put(&mut bytes, 0);
+            }
+        }
         layout::PDU_TYPE.put(&mut bytes, pdu_type.into());
         layout::LENGTH.put(&mut bytes, size as u64);
         bytes

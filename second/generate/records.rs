@@ -90,7 +90,7 @@ impl RecordGenerator {
     }
 
     pub fn damage(&mut self, bytes: &mut Vec<u8>) {
-        let choice = self.random.below(12);
+        let choice = self.random.below(14);
         if bytes.len() < HEAD_SIZE || choice < 2 {
             return self.resize(bytes);
         }
@@ -101,6 +101,7 @@ impl RecordGenerator {
             5 => bytes[1..HEAD_SIZE].fill(u8::MAX),
             6 => self.put_other_signal(&mut bytes[HEAD_SIZE..]),
             7 | 8 => self.flip_bit(bytes),
+            9 | 10 => self.put_by_version(&mut bytes[HEAD_SIZE..]),
             _ => self.datagrams.damage(&mut bytes[HEAD_SIZE..]),
         }
     }
@@ -109,6 +110,18 @@ impl RecordGenerator {
     fn put_other_signal(&mut self, pdu: &mut [u8]) {
         if let Some(signal) = self.datagrams.signal_of_size(pdu.len()) {
             pdu.copy_from_slice(&layout::written_form(&signal));
+        }
+    }
+
+    /// Puts any number where the version tells what is padding, or into the padding behind the status.
+    fn put_by_version(&mut self, pdu: &mut [u8]) {
+        let field = self.random.pick(&[
+            layout::STATUS,
+            layout::START_PADDING,
+            layout::PARAMETER_RECORDS,
+        ]);
+        if field.get(pdu).is_some() {
+            field.put(pdu, self.random.next());
         }
     }
 

@@ -14,6 +14,9 @@ const FIRST_WORD: usize =
 /// Of every so many Signals one is of round-trip timing.
 const TIMING_SHARE: u64 = 3;
 
+/// Of every so many Transmitters one has any number in bytes 30 and 31, which version 7 refuses.
+const RECORDS_SHARE: u64 = 32;
+
 pub struct Traffic {
     random: Random,
     datagrams: Generator,
@@ -83,6 +86,9 @@ impl Traffic {
         }
         if !self.random.one_in(4) {
             layout::SYNC_STATE.put(&mut bytes, pdu::FINE.into());
+        }
+        if self.random.one_in(RECORDS_SHARE) {
+            layout::PARAMETER_RECORDS.put(&mut bytes, self.random.next());
         }
         bytes
     }

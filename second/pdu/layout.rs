@@ -1,6 +1,6 @@
 //! Places by byte number (document 01, "Bytes 0 to 19, both PDUs", "Transmitter, 112 bytes" and
-//! "Signal"; document 02, R-1): the fields that have a rule, the padding, and the written form that
-//! comes of it. The reader and the writer do not use them, so that each is a check on the other.
+//! "Signal"; document 02, R-1 and R-9): the fields that have a rule, the padding, and the written form
+//! that comes of it. The reader and the writer do not use them, so that each is a check on the other.
 
 use super::{RTT, RTT_REPLY, SIGNAL_FIXED_SIZE, TRANSMITTER_TYPE};
 use std::ops::Range;
@@ -38,11 +38,17 @@ pub const VERSION: Field = field(0, 1);
 pub const PDU_TYPE: Field = field(2, 1);
 pub const FAMILY: Field = field(3, 1);
 pub const LENGTH: Field = field(8, 2);
+/// In version 7; in versions 5 and 6 it is padding.
+pub const STATUS: Field = field(10, 1);
+/// Padding in every version.
+pub const START_PADDING: Field = field(11, 1);
 /// Site, application, entity and radio together.
 pub const KEY: Field = field(12, 8);
 
 pub const CATEGORY: Field = field(24, 1);
 pub const INPUT_SOURCE: Field = field(29, 1);
+/// In version 7; in versions 5 and 6 it is padding.
+pub const PARAMETER_RECORDS: Field = field(30, 2);
 pub const PATTERN_LENGTH: Field = field(70, 2);
 pub const MAJOR: Field = field(90, 2);
 pub const DETAIL: Field = field(92, 2);
@@ -74,20 +80,30 @@ pub const SLOT_ID_PADDING: u64 = 0x00FE_0000;
 pub const BODY_START: Field = field(52, 2);
 pub const TIMING_PADDING: u64 = 0xFFF8;
 
-const START_PADDING: Field = field(10, 2);
-const TRANSMITTER_PADDING: [Field; 3] = [START_PADDING, field(30, 2), field(101, 3)];
-const SIGNAL_PADDING: [Field; 2] = [START_PADDING, field(38, 2)];
+/// Padding that is whole bytes, but for a fill: of versions 5 and 6, and of version 7.
+const TRANSMITTER_PADDING: [&[Field]; 2] = [
+    &[field(10, 2), field(30, 2), field(101, 3)],
+    &[field(11, 1), field(101, 3)],
+];
+const SIGNAL_PADDING: [&[Field]; 2] =
+    [&[field(10, 2), field(38, 2)], &[field(11, 1), field(38, 2)]];
 
 /// A taken datagram as the writer gives it: padding, the fill included, as zero.
 pub fn written_form(datagram: &[u8]) -> Vec<u8> {
     let mut form = datagram.to_vec();
+    let by_version = usize::from(has_status(datagram));
     if PDU_TYPE.get(datagram) == Some(u64::from(TRANSMITTER_TYPE)) {
-        clear(&mut form, &TRANSMITTER_PADDING);
+        clear(&mut form, TRANSMITTER_PADDING[by_version]);
     } else {
-        clear(&mut form, &SIGNAL_PADDING);
+        clear(&mut form, SIGNAL_PADDING[by_version]);
         clear_signal(&mut form);
     }
     form
+}
+
+/// The version is the one that has a status.
+pub fn has_status(datagram: &[u8]) -> bool {
+    VERSION.get(datagram) == Some(7)
 }
 
 /// The message type is one of round-trip timing.

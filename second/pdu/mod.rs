@@ -1,6 +1,6 @@
-//! Link 16 PDUs as document 01 has them, with round-trip timing by document 02, R-1, and voice retired
-//! by R-4: their records, the numbers of its rules, and the rules that reading and writing share
-//! (inlined by force as the reader is, see `read`).
+//! Link 16 PDUs as document 01 has them, with round-trip timing by document 02, R-1, voice retired by
+//! R-4, and version 7 by R-9: their records, the numbers of its rules, and the rules that reading and
+//! writing share (inlined by force as the reader is, see `read`).
 
 pub mod layout;
 pub mod read;
@@ -10,19 +10,19 @@ use crate::bytes::Source;
 use crate::numbers::{require, Refusal};
 use std::ops::RangeInclusive;
 
-// "Bytes 0 to 19, both PDUs".
-pub const VERSIONS: [u8; 2] = [5, 6];
+// "Bytes 0 to 19, both PDUs", and document 02, R-9.
+pub const VERSIONS: [u8; 3] = [5, 6, 7];
+pub const LAST_VERSION_WITHOUT_STATUS: u8 = 6;
 pub const TRANSMITTER_TYPE: u8 = 25;
 pub const SIGNAL_TYPE: u8 = 26;
 pub const FAMILY: u8 = 4;
-/// What refusal 1 measures: the bytes as far as the length field and the padding after it.
+/// What refusal 1 measures: the bytes as far as the length field, the status and the padding after it.
 pub const START_SIZE: usize = 12;
-pub const START_PADDING: usize = 2;
+pub const START_PADDING: usize = 1;
 
 // "Transmitter, 112 bytes".
 pub const TRANSMITTER_FIXED_SIZE: usize = 104;
 pub const TRANSMITTER_SIZE: usize = 112;
-pub const INPUT_SOURCE_PADDING: usize = 2;
 pub const MODULATION_PADDING: usize = 3;
 pub const LAST_TSA_LEVEL: u8 = 4;
 pub const LAST_LEVEL_WITHOUT_ID: u8 = 2;
@@ -71,6 +71,8 @@ pub struct Header {
     pub version: u8,
     pub exercise: u8,
     pub timestamp: u32,
+    /// Byte 10 in version 7, and 0 in versions 5 and 6.
+    pub status: u8,
     pub site: u16,
     pub application: u16,
     pub entity: u16,
@@ -118,11 +120,13 @@ pub struct Modulation {
     pub sync_id: u32,
 }
 
-/// The fields of a Transmitter for which document 01 allows one value.
+/// The fields of a Transmitter that may have one value only.
 #[derive(Clone, Copy, Default)]
 pub struct Designation {
     pub category: u8,
     pub input_source: u8,
+    /// How many variable parameter records there are; before version 7 padding.
+    pub parameter_records: u16,
     pub pattern_length: u16,
     pub major: u16,
     pub detail: u16,
@@ -133,6 +137,7 @@ pub struct Designation {
 pub const LINK_16: Designation = Designation {
     category: 21,
     input_source: 8,
+    parameter_records: 0,
     pattern_length: 0,
     major: 7,
     detail: 0,
@@ -218,6 +223,19 @@ pub fn slot_id(epoch: u8, slot: u32) -> u32 {
 #[inline(always)]
 pub fn check_version(version: u8) -> Result<(), Refusal> {
     require(VERSIONS.contains(&version), Refusal::Version)
+}
+
+/// Whether byte 10 is the PDU status, and bytes 30 and 31 of a Transmitter count variable parameter
+/// records; in the other versions they are padding (document 02, R-9).
+#[inline(always)]
+pub fn has_status(version: u8) -> bool {
+    version > LAST_VERSION_WITHOUT_STATUS
+}
+
+/// Refusal 52 (document 02, R-9).
+pub fn check_status(header: &Header) -> Result<(), Refusal> {
+    let holds = has_status(header.version) || header.status == 0;
+    require(holds, Refusal::Status)
 }
 
 /// Refusal 9.

@@ -1,5 +1,5 @@
-//! The reader, from document 01, with document 02, R-1 and R-4. Fields are taken in the order of their
-//! bytes, refusals are given in the order of "The numbers".
+//! The reader, from document 01, with document 02, R-1, R-4 and R-9. Fields are taken in the order of
+//! their bytes, refusals are given in the order of "The numbers".
 //!
 //! Its functions are inlined by force: where the answer alone is asked for, no record is built,
 //! and the bench holds the archive against that.
@@ -47,13 +47,14 @@ enum Rules {
     Archive,
 }
 
-/// Bytes 0 to 11; the family is tested and not kept.
+/// Bytes 0 to 10; the family is tested and not kept.
 struct Start {
     version: u8,
     exercise: u8,
     pdu_type: u8,
     timestamp: u32,
     length: u16,
+    status: u8,
 }
 
 /// Reads a datagram that is exactly one PDU.
@@ -93,6 +94,7 @@ fn read_start(datagram: &[u8]) -> Result<Start, Refusal> {
         pdu_type,
         timestamp: source.u32(),
         length: source.u16(),
+        status: if has_status(version) { source.u8() } else { 0 },
     })
 }
 
@@ -111,6 +113,7 @@ fn read_header(start: &Start, source: &mut Source) -> Header {
         version: start.version,
         exercise: start.exercise,
         timestamp: start.timestamp,
+        status: start.status,
         site: source.u16(),
         application: source.u16(),
         entity: source.u16(),
@@ -118,12 +121,12 @@ fn read_header(start: &Start, source: &mut Source) -> Header {
     }
 }
 
-/// Refusals 4, 5, 6, 7, 8 and 9.
+/// Refusals 4, 5, 6, 7, 64, 8 and 9.
 #[inline(always)]
 fn read_transmitter(start: &Start, datagram: &[u8]) -> Result<Transmitter, Refusal> {
     let (fixed, parameters) = fixed_part::<TRANSMITTER_FIXED_SIZE>(start.length, datagram)?;
     let (mut transmitter, designation) = read_fixed_part(start, fixed);
-    check_designation(&designation)?;
+    check_designation(start.version, &designation)?;
     require(datagram.len() == TRANSMITTER_SIZE, Refusal::PduSize)?;
     transmitter.modulation = read_modulation(parameters);
     check_modulation(&transmitter.modulation)?;
@@ -148,7 +151,7 @@ fn read_fixed_part(
     transmitter.nomenclature = source.u16();
     transmitter.transmit_state = source.u8();
     designation.input_source = source.u8();
-    source.skip(INPUT_SOURCE_PADDING);
+    designation.parameter_records = source.u16();
     transmitter.antenna_location = [source.u64(), source.u64(), source.u64()];
     transmitter.relative_location = [source.u32(), source.u32(), source.u32()];
     transmitter.pattern_type = source.u16();
@@ -166,9 +169,9 @@ fn read_fixed_part(
     (transmitter, designation)
 }
 
-/// Refusals 5, 6 and 7.
+/// Refusals 5, 6, 7 and 64.
 #[inline(always)]
-fn check_designation(read: &Designation) -> Result<(), Refusal> {
+fn check_designation(version: u8, read: &Designation) -> Result<(), Refusal> {
     let radio = read.category == LINK_16.category
         && read.input_source == LINK_16.input_source
         && read.major == LINK_16.major
@@ -182,6 +185,11 @@ fn check_designation(read: &Designation) -> Result<(), Refusal> {
     require(
         read.pattern_length == LINK_16.pattern_length,
         Refusal::PatternLength,
+    )?;
+    let no_records = read.parameter_records == LINK_16.parameter_records;
+    require(
+        no_records || !has_status(version),
+        Refusal::ParameterRecords,
     )
 }
 

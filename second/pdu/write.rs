@@ -1,5 +1,5 @@
-//! The writer, from document 01, with document 02, R-1 and R-4. Fields are put in the order of their
-//! bytes.
+//! The writer, from document 01, with document 02, R-1, R-4 and R-9. Fields are put in the order of
+//! their bytes.
 
 use super::*;
 use crate::bytes::Sink;
@@ -17,9 +17,10 @@ pub fn write(pdu: &Pdu, output: &mut [u8]) -> Result<usize, Refusal> {
     Ok(size)
 }
 
-/// Refusals 2, then 9 for a Transmitter or 10, 131 to 138, 50, 14 and 15 for a Signal.
+/// Refusals 2 and 52, then 9 for a Transmitter or 10, 131 to 138, 50, 14 and 15 for a Signal.
 fn check_writable(pdu: &Pdu) -> Result<(), Refusal> {
     check_version(pdu.header().version)?;
+    check_status(pdu.header())?;
     match pdu {
         Pdu::Transmitter(transmitter) => check_modulation(&transmitter.modulation),
         Pdu::Signal(signal, body) => {
@@ -38,6 +39,7 @@ fn write_header(header: &Header, pdu_type: u8, size: usize, sink: &mut Sink) {
         .u8(FAMILY)
         .u32(header.timestamp)
         .u16(size as u16)
+        .u8(header.status)
         .zeros(START_PADDING)
         .u16(header.site)
         .u16(header.application)
@@ -60,7 +62,7 @@ fn write_transmitter(transmitter: &Transmitter, sink: &mut Sink) {
         .u16(transmitter.nomenclature)
         .u8(transmitter.transmit_state)
         .u8(LINK_16.input_source)
-        .zeros(INPUT_SOURCE_PADDING);
+        .u16(LINK_16.parameter_records);
     for coordinate in transmitter.antenna_location {
         sink.u64(coordinate);
     }

@@ -24,6 +24,7 @@ fn header(unit: u16) -> Header {
         version: 6,
         exercise: 1,
         timestamp: 0,
+        status: 0,
         site: 1,
         application: 1,
         entity: unit,

@@ -16,6 +16,7 @@ fn show_header(h: Header) {
     show::field(h.version as u64);
     show::field(h.exercise as u64);
     show::field(h.timestamp as u64);
+    show::field(h.status as u64);
     show::field(h.site as u64);
     show::field(h.application as u64);
     show::field(h.entity as u64);

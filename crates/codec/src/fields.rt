@@ -64,7 +64,8 @@ fn read_header(line: &[u8], place: Place) -> HeaderRead {
     let version = words::number(line, place, U8);
     let exercise = words::number(line, version.rest, U8);
     let timestamp = words::number(line, exercise.rest, U32);
-    let site = words::number(line, timestamp.rest, U16);
+    let status = words::number(line, timestamp.rest, U8);
+    let site = words::number(line, status.rest, U16);
     let application = words::number(line, site.rest, U16);
     let entity = words::number(line, application.rest, U16);
     let radio = words::number(line, entity.rest, U16);
@@ -72,6 +73,7 @@ fn read_header(line: &[u8], place: Place) -> HeaderRead {
         version: version.value as u8,
         exercise: exercise.value as u8,
         timestamp: timestamp.value as u32,
+        status: status.value as u8,
         site: site.value as u16,
         application: application.value as u16,
         entity: entity.value as u16,

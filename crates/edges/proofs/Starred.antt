@@ -4,8 +4,8 @@ use mathlib.Core.Path.{_≡_, refl}
 use mathlib.Core.Bool.{true}
 use Rattle.occupancy.specs.Places.{least, count, wordOf}
 use Rattle.pdu.specs.Rules.{wrongVersion, wrongSync, accessRules, slotRules, networkRules, liveRules, bodyRules, innerRules}
-use Rattle.pdu.specs.Reading.{transmitterOf, signalOf, content, wrongType, wrongLength, wrongFixed, wrongBits, startRules, transmitterLayout}
-use Rattle.pdu.specs.Reading.{signalLayout, readingRules, refusal, reading}
+use Rattle.pdu.specs.Reading.{transmitterOf, signalOf, content, wrongType, wrongLength, wrongFixed, wrongRecords, wrongBits, startRules}
+use Rattle.pdu.specs.Reading.{transmitterLayout, signalLayout, readingRules, refusal, reading}
 use Rattle.station.specs.Units.{fresh, made, placeOf}
 use Rattle.station.specs.Hearing.{enter, renew, hearTransmitter, step, heard}
 use Rattle.station.specs.Clock.{atTime, clocked}
@@ -13,6 +13,6 @@ use Rattle.edges.specs.Cases.{all-hold, starred-cases}
 
 pub starred : all-hold starred-cases ≡ true
 unfolding wrongVersion wrongSync accessRules slotRules networkRules liveRules bodyRules innerRules transmitterOf signalOf content wrongType wrongLength
-    wrongFixed wrongBits startRules transmitterLayout signalLayout readingRules refusal reading
+    wrongFixed wrongRecords wrongBits startRules transmitterLayout signalLayout readingRules refusal reading
     fresh made placeOf enter renew hearTransmitter step heard atTime clocked least count wordOf
 starred = refl

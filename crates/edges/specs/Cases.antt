@@ -68,7 +68,7 @@ all-hold (c ∷ cs) = holds c && all-hold cs
 abbrev pub starred-cases : List Case
 starred-cases =
     answers (zeros 11) 1 0  -- 11 bytes
-    ∷ answers (7 ∷ zeros 11) 2 0  -- 12 bytes, version 7
+    ∷ answers (8 ∷ zeros 11) 2 0  -- 02, R-9: 12 bytes, version 8
     ∷ answers (6 ∷ 0 ∷ 26 ∷ 4 ∷ 0 ∷ 0 ∷ 0 ∷ 0 ∷ 0 ∷ 12 ∷ 0 ∷ 0 ∷ []) 4 0  -- 12 bytes, version 6, type 26, family 4, length 12
     ∷ answers (words 0 60) 0 60  -- PDU sizes for 0, 1, 2 and 12 words
     ∷ answers (words 1 68) 0 68

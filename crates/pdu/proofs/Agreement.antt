@@ -4,7 +4,7 @@
 use Prim.Native.Nat.{ℕ, _+_, _-_, _*_, _/_, _%_, _^_, _≤_}
 use mathlib.Core.Path.{_≡_, refl, sym, ap, subst, _∙_}
 use mathlib.Core.Logic.{_↔_, _≢_, _⊎_, inl, inr, Iff·trans}
-use mathlib.Core.Bool.{Bool, true, false, not, true≢false}
+use mathlib.Core.Bool.{Bool, true, false, not, true≢false, false≢true}
 use mathlib.Core.List.{List, [], _∷_, _++_}
 use lib.ListN.{length}
 use lib.Dec.{eqb, ltb}
@@ -19,15 +19,17 @@ use Rattle.wire.proofs.RuleLaws.{Agree, done, _then_, agree-append, verdict}
 use Rattle.pdu.specs.Numbers
 use Rattle.pdu.specs.Tables.{filled, signalSize}
 use Rattle.pdu.specs.Words.{wordsIn, wholeWords}
-use Rattle.pdu.specs.Rules.{wrongVersion, isPrimary, wrongSync, wrongSecurity, accessRules, slotRules, networkRules, isRetired}
-use Rattle.pdu.specs.Rules.{liveRules, wrongBody, bodyRules, innerRules}
-use Rattle.pdu.specs.Reading.{transmitterOf, signalOf, bodySize, content, wrongType, wrongLength, wrongFixed, wrongBits, startRules}
-use Rattle.pdu.specs.Reading.{transmitterLayout, signalLayout, readingRules, archiveRules}
+use Rattle.pdu.specs.Rules.{wrongVersion, wrongStatus, isPrimary, wrongSync, wrongSecurity, accessRules, slotRules, networkRules}
+use Rattle.pdu.specs.Rules.{isRetired, liveRules, wrongBody, bodyRules, innerRules}
+use Rattle.pdu.specs.Reading.{transmitterOf, signalOf, bodySize, content, wrongType, wrongLength, wrongFixed, wrongRecords, wrongBits}
+use Rattle.pdu.specs.Reading.{startRules, transmitterLayout, signalLayout, readingRules, archiveRules}
 use Rattle.pdu.specs.Writing.{recordRules, writingRules}
-use Rattle.pdu.specs.Plain.{FixedRule, SyncRule, FilledTo, SecurityRule, LiveRule, WordsRule, TimingRule, epochOf, plainStart}
+use Rattle.pdu.specs.Plain.{VersionRule, StatusRule, RecordsRule, FixedRule, SyncRule, FilledTo, SecurityRule, LiveRule, WordsRule, TimingRule}
+use Rattle.pdu.specs.Plain.{epochOf, plainStart}
 use Rattle.pdu.specs.Plain.{plainTransmitterLayout, plainTransmitter, plainSignalLayout, plainNetwork, plainBody, plainNetworkAt, plainBodyAt}
 use Rattle.pdu.specs.Plain.{plainInner, plainSignal, plainArchive, plainInnerOf, plainTransmitterRecord, plainSignalRecord}
 use Rattle.pdu.specs.Plain.{plainTransmitterWriting, plainSignalWriting}
+use Rattle.pdu.specs.declared.Header.{Header}
 use Rattle.pdu.specs.declared.Sync.{Sync}
 use Rattle.pdu.specs.declared.Network.{Network}
 use Rattle.pdu.specs.declared.Transmitter.{Transmitter}
@@ -36,9 +38,34 @@ use Rattle.pdu.specs.declared.Reading.the-variants.{Transmitter as aTran
 
 -- ---- each test
 
-pub version-says : (v : ℕ) → (wrongVersion v ≡ false) ↔ ((v ≡ 5) ⊎ (v ≡ 6))
+pub version-says : (v : ℕ) → (wrongVersion v ≡ false) ↔ VersionRule v
 unfolding wrongVersion
-version-says v = negated _ (one-of _ _ (equal v _) (equal v _))
+version-says v = negated _ (one-of _ _ (equal v _) (one-of _ _ (equal v _) (equal v _)))
+
+-- 52: of the three versions 7 alone may have a status
+pub status-says : (h : Header) → VersionRule (h .version) → (wrongStatus h ≡ false) ↔ StatusRule (h .version) (h .status)
+unfolding wrongStatus
+status-says h version =
+    Iff·trans (if-so _ _ (before _ (equal _ _)) (negated _ (equal _ _)))
+    (λ f early. f (older early), λ f none. f (early version none))
+  where
+    before : {P : Type 0} (b : Bool) → (b ≡ true) ↔ P → (not b ≡ true) ↔ ¬ P
+    before true e = (λ f. absurd (false≢true f), λ n. absurd (n (e .0 refl)))
+    before false e = (λ f p. false≢true (e .1 p), λ n. refl)
+
+    older : (h .version ≡ 5) ⊎ (h .version ≡ 6) → h .version ≢ 7
+    older (inl e) z = omega arith
+    older (inr e) z = omega arith
+
+    early : VersionRule (h .version) → h .version ≢ 7 → (h .version ≡ 5) ⊎ (h .version ≡ 6)
+    early (inl e) n = inl e
+    early (inr (inl e)) n = inr e
+    early (inr (inr e)) n = absurd (n e)
+
+-- 64
+records-say : (d : List ℕ) → (wrongRecords d ≡ false) ↔ RecordsRule d
+unfolding wrongRecords
+records-say d = if-so _ _ (equal _ _) (negated _ (equal _ _))
 
 -- 3, for what the type is then said to be
 type-says : (d : List ℕ) (type : Type 0)
@@ -186,7 +213,7 @@ start-agrees : (d : List ℕ) (type : Type 0)
 unfolding startRules
 start-agrees d type h = not-below _ _ then λ long. version-says _ then λ version. type-says d type h then λ known. done
 
--- 4 to 8
+-- 4 to 7, 64 and 8
 transmitter-layout-agrees : (d : List ℕ) → Agree (transmitterLayout d) (plainTransmitterLayout d)
 unfolding transmitterLayout
 transmitter-layout-agrees d =
@@ -194,7 +221,8 @@ transmitter-layout-agrees d =
     then λ length. fixed-says _
     then λ fixed. negated _ (equal _ _)
     then λ modulation. negated _ (equal _ _)
-    then λ pattern. negated _ (equal _ _)
+    then λ pattern. records-say _
+    then λ records. negated _ (equal _ _)
     then λ size. done
 
 -- 4, 10, 11, 12, 8
@@ -306,11 +334,12 @@ body-verdict d = verdict (body-at d)
 -- the rules of a record
 transmitter-record-agrees : (t : Transmitter) → Agree (recordRules (aTransmitter t)) (plainTransmitterRecord t)
 unfolding recordRules innerRules
-transmitter-record-agrees t = version-says _ then λ version. sync-says _ then λ sync. done
+transmitter-record-agrees t = version-says _ then λ version. status-says _ version then λ status. sync-says _ then λ sync. done
 
 signal-record-agrees : (s : Signal) (n : ℕ) → Agree (recordRules (aSignal s n)) (plainSignalRecord s n)
 unfolding recordRules
-signal-record-agrees s n = version-says _ then λ version. not-below _ _ then λ kept. inner-agrees s n
+signal-record-agrees s n =
+    version-says _ then λ version. status-says _ version then λ status. not-below _ _ then λ kept. inner-agrees s n
 
 pub transmitter-record : (t : Transmitter) → Verdict (recordRules (aTransmitter t)) (plainTransmitterRecord t)
 transmitter-record t = verdict (transmitter-record-agrees t)

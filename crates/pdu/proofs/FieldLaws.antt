@@ -22,20 +22,30 @@ use Rattle.pdu.specs.declared.Transmitter.{Transmitter}
 use Rattle.pdu.specs.declared.Signal.{Signal}
 use Rattle.pdu.specs.declared.Reading.{Reading}
 use Rattle.pdu.specs.declared.Reading.the-variants.{Transmitter as aTransmitter, Signal as aSignal}
+use Rattle.pdu.proofs.VersionLaws.{status-there, status-none}
 use Rattle.pdu.proofs.Answers.{reads-as, as-transmitter, as-signal, taken-exactly-when}
 
 -- where a table places each field
 pub header-places : (d : List ℕ) → HeaderFields d (headerOf d)
 unfolding headerOf
 header-places d =
-    record { version = refl; exercise = refl; timestamp = refl; site = refl; application = refl; entity = refl; radio = refl }
+    record {
+      version = refl;
+      exercise = refl;
+      timestamp = refl;
+      status-7 = status-there (num 1 0 d) (num 1 10 d);
+      status-before = status-none (num 1 0 d) (num 1 10 d);
+      site = refl;
+      application = refl;
+      entity = refl;
+      radio = refl;
+    }
 
 transmitter-places : (d : List ℕ) → TransmitterFields d (transmitterOf d)
-unfolding transmitterOf
+unfolding headerOf transmitterOf
 transmitter-places d =
     record {
-      header =
-          record { version = refl; exercise = refl; timestamp = refl; site = refl; application = refl; entity = refl; radio = refl };
+      header = header-places d;
       entity = record { kind = refl; domain = refl; country = refl; version = refl; nomenclature = refl; state = refl };
       antenna = record { x = refl; y = refl; z = refl; dx = refl; dy = refl; dz = refl; pattern = refl };
       emission = record { frequency = refl; bandwidth = refl; power = refl; spread = refl; crypto = refl; key = refl };
@@ -52,11 +62,10 @@ signal-places : (d : List ℕ) (n : ℕ) (body : List ℕ)
     → 8 * (20 + n) ≡ num 2 28 d
     → body ≡ bodyIn (aSignal (signalOf d) n) d
     → SignalFields d (signalOf d) n body
-unfolding signalOf
+unfolding headerOf signalOf
 signal-places d n body bits held =
     record {
-      header =
-          record { version = refl; exercise = refl; timestamp = refl; site = refl; application = refl; entity = refl; radio = refl };
+      header = header-places d;
       encoding = ap (λ (v : ℕ). v % 2 ^ 14) (div-one _);
       rate = refl;
       samples = refl;

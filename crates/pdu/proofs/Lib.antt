@@ -2,6 +2,7 @@
 pub mod WordLaws
 pub mod Agreement
 pub mod Answers
+pub mod VersionLaws
 pub mod BodyLaws
 pub mod Taken
 pub mod FieldLaws

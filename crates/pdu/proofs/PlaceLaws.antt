@@ -20,11 +20,11 @@ use Rattle.wire.proofs.AppendLaws.{clear-append, sound-append}
 use Rattle.wire.proofs.ClearLaws.{joined-append, clear-pieces}
 use Rattle.pdu.specs.Tables.{fillOf, transmitterTable, signalHead, bodyTable}
 use Rattle.pdu.specs.Forms.{tableOf, bytesOf, sizeOf, bodyIn}
-use Rattle.pdu.specs.Reading.{signalOf, bodySize, content, bodyOf, refusal}
+use Rattle.pdu.specs.Reading.{versionSeven, transmitterOf, signalOf, bodySize, content, bodyOf, refusal}
 use Rattle.pdu.specs.Writing.{recordRules, writingRefusal, written, outputAfter, writtenForm, paddingZero}
 use Rattle.pdu.specs.Plain.{FilledTo}
 use Rattle.pdu.specs.Fields.{SignalFields}
-use Rattle.pdu.specs.Places.{plainTransmitterZero, dataEnd, plainGiven, plainSignalZero, PaddingPlaces, TransmitterBytes, SignalBytes, OutputExactly}
+use Rattle.pdu.specs.Places.{plainStatus, plainTransmitterZero, dataEnd, plainGiven, plainSignalZero, PaddingPlaces, TransmitterBytes, SignalBytes, OutputExactly}
 use Rattle.pdu.specs.Fits.{FitsTransmitter, FitsSignal}
 use Rattle.pdu.specs.RoundTrips.{ReadsBack}
 use Rattle.pdu.specs.declared.Transmitter.{Transmitter}
@@ -35,9 +35,10 @@ use Rattle.pdu.specs.declared.Written.the-variants.{Refused as NotWritte
 use Rattle.pdu.proofs.Agreement.{content-transmitter, content-signal}
 use Rattle.pdu.proofs.Answers.{Holds, reading-taken, reads-as, taken-exactly-when}
 use Rattle.pdu.proofs.Taken.{signal-bounds, sound-form}
+use Rattle.pdu.proofs.VersionLaws.{status-byte, records-left, transmitter-sound}
 use Rattle.pdu.proofs.BodyLaws.{body-given, given-at, body-clear}
 use Rattle.pdu.proofs.FieldLaws.{transmitter-fields, signal-fields}
-use Rattle.pdu.proofs.ReadLaws.{read-taken, taken-laid, laid-transmitter}
+use Rattle.pdu.proofs.ReadLaws.{read-taken, taken-laid, laid-transmitter, laid-records}
 use Rattle.pdu.proofs.RoundTrip.{written-form-back, length-form, writes-rules, bytes-form, given-same, reads-back}
 
 -- ---- padding
@@ -62,22 +63,41 @@ slot-bytes d b =
     bytes d b (suc (suc (suc zero))) = b 43
     bytes d b (suc (suc (suc (suc i)))) = omega arith
 
+-- the pieces of a Transmitter, for what stands in byte 10 and in bytes 30 and 31
+transmitter-pieces : List ℕ → List ℕ → List ℕ → List ℕ
+transmitter-pieces d status records =
+    joined
+    (span 0 10 d ∷ status ∷ [] ∷ (0 ∷ []) ∷ span 12 30 d ∷ records ∷ span 32 101 d ∷ (0 ∷ 0 ∷ 0 ∷ []) ∷ span 104 112 d ∷ [])
+
 transmitter-padding : (d : List ℕ) → Bytes d → refusal d ≡ 0 → num 1 2 d ≡ 25 → paddingZero d ≡ joined (plainTransmitterZero d)
-unfolding paddingZero
+unfolding paddingZero transmitterOf transmitter-pieces
 transmitter-padding d b e type =
     let holds = content-transmitter d type in
-    let long : length d ≡ 112 = laid-transmitter d (taken-laid d e) type in
-    ap (λ (r : Reading). clear 0 (tableOf r) d) holds ∙ clear-pieces transmitterTable 0 0 d refl b (omega arith)
+    let laid = taken-laid d e in
+    let long : length d ≡ 112 = laid-transmitter d laid type in
+    let seven : Bool = versionSeven d in
+    ap (λ (r : Reading). clear 0 (tableOf r) d) holds
+    ∙ clear-pieces (transmitterTable seven) 0 0 d (transmitter-sound seven) b (omega arith)
+    ∙ ap₂ (transmitter-pieces d) (status-byte d b) (ap (big 2) (records-left (num 1 0 d) (num 2 30 d) (laid-records d laid type)))
+
+-- the pieces before a Signal's body, for what stands in byte 10 and in the slot ID
+head-pieces : List ℕ → List ℕ → List ℕ → List (List ℕ)
+head-pieces d status slot =
+    span 0 10 d ∷ status ∷ [] ∷ (0 ∷ []) ∷ span 12 38 d ∷ (0 ∷ 0 ∷ []) ∷ [] ∷ slot ∷ span 44 52 d ∷ []
 
 -- the bytes before a Signal's body
-head-padding : (n : ℕ) (d : List ℕ) → Bytes d → sound (signalHead n) ≡ true → 52 ≤ length d
-    → clear 0 (signalHead n) d ≡ joined (span 0 10 d ∷ (0 ∷ 0 ∷ []) ∷ span 12 38 d ∷ (0 ∷ 0 ∷ []) ∷ slot-left d ∷ span 44 52 d ∷ [])
+head-padding : (n : ℕ) (d : List ℕ)
+    → Bytes d
+    → sound (signalHead (versionSeven d) n) ≡ true
+    → 52 ≤ length d
+    → clear 0 (signalHead (versionSeven d) n) d ≡ joined (head-pieces d (plainStatus d ∷ []) (slot-left d))
+unfolding head-pieces
 head-padding n d b fits long =
-    clear-pieces (signalHead n) 0 0 d fits b long
-    ∙ ap (λ (l : List ℕ). joined (span 0 10 d ∷ (0 ∷ 0 ∷ []) ∷ span 12 38 d ∷ (0 ∷ 0 ∷ []) ∷ l ∷ span 44 52 d ∷ [])) (slot-bytes d b)
+    clear-pieces (signalHead (versionSeven d) n) 0 0 d fits b long
+    ∙ ap₂ (λ (status slot : List ℕ). joined (head-pieces d status slot)) (status-byte d b) (slot-bytes d b)
 
 signal-padding : (d : List ℕ) → Bytes d → refusal d ≡ 0 → num 1 2 d ≡ 26 → paddingZero d ≡ joined (plainSignalZero d)
-unfolding paddingZero slot-left
+unfolding paddingZero slot-left signalOf head-pieces
 signal-padding d b e type =
     let other : num 1 2 d ≢ 25 = λ z. omega arith in
     let holds = content-signal d other in
@@ -85,8 +105,9 @@ signal-padding d b e type =
     let n : ℕ = bodySize d in
     let message : ℕ = signalOf d .network .«message_type» in
     let h = read-taken d (aSignal (signalOf d) n) tt reads in
-    let fits : (sound (signalHead n) ≡ true) × (sound (bodyTable message n) ≡ true) =
-    both-true _ _ (sym (sound-append (signalHead n) (bodyTable message n)) ∙ sound-form (aSignal (signalOf d) n) (h .rules)) in
+    let head = signalHead (versionSeven d) n in
+    let fits : (sound head ≡ true) × (sound (bodyTable message n) ≡ true) =
+    both-true _ _ (sym (sound-append head (bodyTable message n)) ∙ sound-form (aSignal (signalOf d) n) (h .rules)) in
     let fields = signal-fields d (signalOf d) n reads in
     let inside : 52 + n ≤ length d = omega (arith, h .size) in
     let counted : n ≡ dataEnd d - 52 = omega (arith, fields .body-size) in
@@ -98,11 +119,11 @@ signal-padding d b e type =
     ∙ ap₂ (λ (m k : ℕ). plainGiven m (take k (drop 52 d))) (fields .network .message-type) counted)
     (ap (λ (k : ℕ). replicate k 0) left ∙ sym (append-nil (replicate (length d - dataEnd d) 0))) in
     ap (λ (r : Reading). clear 0 (tableOf r) d) holds
-    ∙ clear-append (signalHead n) (bodyTable message n) 0 d
+    ∙ clear-append head (bodyTable message n) 0 d
     ∙ ap₂ (λ (a z : List ℕ). a ++ z) (head-padding n d b (fits .0) (omega arith)) body
     ∙ sym
     (joined-append
-    (span 0 10 d ∷ (0 ∷ 0 ∷ []) ∷ span 12 38 d ∷ (0 ∷ 0 ∷ []) ∷ slot-left d ∷ span 44 52 d ∷ [])
+    (head-pieces d (plainStatus d ∷ []) (slot-left d))
     (plainGiven (num 1 37 d) (span 52 (dataEnd d) d) ∷ replicate (length d - dataEnd d) 0 ∷ []))
 
 -- of every taken datagram
@@ -139,7 +160,7 @@ transmitter-bytes t room f e =
     let none-given : Bytes [] = λ i. omega arith in
     let back = reads-back (aTransmitter t) [] room f none-given refl e in
     let (none, own) = own-form (aTransmitter t) [] tt none-given (writes-rules (aTransmitter t) room e) back in
-    let (long, (v, ((type, family), ((field, least), (fixed, (modulation, (pattern, (size, sync)))))))) =
+    let (long, (v, ((type, family), ((field, least), (fixed, (modulation, (pattern, (records, (size, sync))))))))) =
     taken-exactly-when z .transmitter-taken .0 (t, back .reads) in
     record {
       size = size;

@@ -25,7 +25,7 @@ use Rattle.pdu.specs.Forms.{tableOf, bytesOf, sizeOf, bodyIn}
 use Rattle.pdu.specs.Tables.{signalSize}
 use Rattle.pdu.specs.Reading.{bodySize, saysTransmitter, content, bodyOf, wrongLength, startRules, transmitterLayout, signalLayout}
 use Rattle.pdu.specs.Reading.{layoutRules, formRules, Laid, readingRules, refusal, reading, archiveRules, archiveRefusal, archiveReading}
-use Rattle.pdu.specs.Plain.{TimingRule, LiveRule, NoThirteen}
+use Rattle.pdu.specs.Plain.{RecordsRule, TimingRule, LiveRule, NoThirteen}
 use Rattle.pdu.specs.Writing.{recordRules, writingRules, writingRefusal, outputAfter, writtenForm, writtenAs, inWrittenForm}
 use Rattle.pdu.specs.declared.Signal.{Signal}
 use Rattle.pdu.specs.declared.Reading.{Reading}
@@ -84,7 +84,7 @@ pub taken-words : (d : List ℕ) (s : Signal) (n : ℕ)
     → s .network .«message_type» ≡ 0
     → (n ≡ Numbers.bodyHeader + Numbers.wordBytes * wordsIn n) × (wordsIn n ≤ Numbers.mostWords)
 taken-words d s n e zero-type =
-    let (v, (encoding, (npg, (net, (tsec, (msec, (type, (slot, (epoch, (last, (live, ((words, six), ((few, most), end))))))))))))) =
+    let (v, (status, (encoding, (npg, (net, (tsec, (msec, (type, (slot, (epoch, (last, (live, ((words, six), ((few, most), end)))))))))))))) =
     signal-record s n .none .0 (read-taken d (aSignal s n) tt e .rules) in
     let whole : n ≡ 6 + 10 * (words zero-type .0) = words zero-type .1 in
     let short : n ≤ 126 = few zero-type in
@@ -95,7 +95,7 @@ pub taken-type : (d : List ℕ) (s : Signal) (n : ℕ)
     → reading d ≡ aSignal s n
     → (s .network .«message_type» ≤ Numbers.lastMessageType) × LiveRule (s .network .«message_type»)
 taken-type d s n e =
-    let (v, (encoding, (npg, (net, (tsec, (msec, (type, (slot, (epoch, (last, (live, body))))))))))) =
+    let (v, (status, (encoding, (npg, (net, (tsec, (msec, (type, (slot, (epoch, (last, (live, body)))))))))))) =
     signal-record s n .none .0 (read-taken d (aSignal s n) tt e .rules) in
     (type, live)
 
@@ -145,8 +145,14 @@ right-length least d e = let (same, enough) = length-says least d .0 e in omega 
 -- a Transmitter whose layout is right has its full size
 pub transmitter-laid : (d : List ℕ) → first (transmitterLayout d) ≡ 0 → length d ≡ Numbers.transmitterSize
 transmitter-laid d e =
-    let (field, (fixed, (modulation, (pattern, (size, end))))) = transmitter-layout d .none .0 e in
+    let (field, (fixed, (modulation, (pattern, (records, (size, end)))))) = transmitter-layout d .none .0 e in
     size
+
+-- and no variable parameter records in version 7
+pub records-laid : (d : List ℕ) → first (transmitterLayout d) ≡ 0 → RecordsRule d
+records-laid d e =
+    let (field, (fixed, (modulation, (pattern, (records, rest))))) = transmitter-layout d .none .0 e in
+    records
 
 -- a Signal whose layout is right counts its network header as data, and has its filled size
 pub record SignalLaid (d : List ℕ) : Type 0 where
@@ -193,6 +199,10 @@ laid-long d h = start-long d (h .0)
 pub laid-transmitter : (d : List ℕ) → Laid d → num 1 2 d ≡ 25 → length d ≡ Numbers.transmitterSize
 laid-transmitter d h type =
     transmitter-laid d (subst (λ (r : Reading). first (layoutRules r d) ≡ 0) (content-transmitter d type) (h .1))
+
+pub laid-records : (d : List ℕ) → Laid d → num 1 2 d ≡ 25 → RecordsRule d
+laid-records d h type =
+    records-laid d (subst (λ (r : Reading). first (layoutRules r d) ≡ 0) (content-transmitter d type) (h .1))
 
 pub laid-signal : (d : List ℕ) → Laid d → num 1 2 d ≢ 25 → first (signalLayout d) ≡ 0
 laid-signal d h type = subst (λ (r : Reading). first (layoutRules r d) ≡ 0) (content-signal d type) (h .1)

@@ -23,7 +23,7 @@ use Rattle.wire.proofs.AppendLaws.{fill-append}
 use Rattle.wire.proofs.RuleLaws.{_also_, equal, one-of, both-then}
 use Rattle.pdu.specs.Numbers
 use Rattle.pdu.specs.Rules.{accessRules, slotRules, networkRules, liveRules, bodyRules, innerRules}
-use Rattle.pdu.specs.Tables.{fillOf, transmitterTable, signalHead, timingSlots, bodySlots, bodyTable}
+use Rattle.pdu.specs.Tables.{fillOf, isSeven, signalHead, timingSlots, bodySlots, bodyTable}
 use Rattle.pdu.specs.Records.{transmitterValues, signalValues}
 use Rattle.pdu.specs.Forms.{tableOf, bodyValues, bodyCleared, valuesOf, bytesOf, sizeOf, bodyIn}
 use Rattle.pdu.specs.Reading.{content, bodyOf, refusal, numberOf}
@@ -39,8 +39,9 @@ use Rattle.pdu.specs.declared.Reading.{Reading}
 use Rattle.pdu.specs.declared.Reading.the-variants.{Refused, Transmitter as aTransmitter, Signal as aSignal}
 use Rattle.pdu.specs.declared.Written.the-variants.{Size}
 use Rattle.pdu.proofs.Answers.{reading-taken, refusal-read}
+use Rattle.pdu.proofs.VersionLaws.{status-fits}
 use Rattle.pdu.proofs.BodyLaws.{timing-slots, slots-width, given-values, body-fit, body-written}
-use Rattle.pdu.proofs.Taken.{Taken, taken, takes, signal-bounds, sound-form, width-form}
+use Rattle.pdu.proofs.Taken.{Taken, taken, takes, transmitter-status, signal-bounds, sound-form, width-form}
 
 -- ---- written back
 
@@ -140,11 +141,12 @@ body-at : (s : Signal) (n : ℕ) (body : List ℕ)
     → drop Numbers.bodyStart (bytesOf (aSignal s n) body) ≡ bodyCleared (s .network .«message_type») n body ++ replicate (fillOf n) 0
 unfolding bytesOf
 body-at s n body =
+    let seven : Bool = isSeven (s .header .version) in
     let message : ℕ = s .network .«message_type» in
     let held : List ℕ = bodyValues message n body in
     let front : List ℕ = signalValues s [] in
-    ap (drop Numbers.bodyStart) (fill-append (signalHead n) (bodyTable message n) front held refl)
-    ∙ drop-at (fill (signalHead n) front) (fill (bodyTable message n) held) Numbers.bodyStart (length-fill (signalHead n) front)
+    ap (drop Numbers.bodyStart) (fill-append (signalHead seven n) (bodyTable message n) front held refl)
+    ∙ drop-at (fill (signalHead seven n) front) (fill (bodyTable message n) held) Numbers.bodyStart (length-fill (signalHead seven n) front)
     ∙ body-written message n body
 
 -- written and read: the body too, its padding zero
@@ -167,8 +169,11 @@ given-same (aSignal s n) body b e =
     (given-values (s .network .«message_type») n body b (signal-bounds s n e .timing))
 
 -- a record whose fields fit their types has values that fit the table
-transmitter-fit : (t : Transmitter) → FitsTransmitter t → Fit transmitterTable (transmitterValues t)
-transmitter-fit t f =
+transmitter-fit : (t : Transmitter)
+    → FitsTransmitter t
+    → first (recordRules (aTransmitter t)) ≡ 0
+    → Fit (tableOf (aTransmitter t)) (transmitterValues t)
+transmitter-fit t f rules =
     let e = f .entity in
     let a = f .antenna in
     let m = f .emission in
@@ -177,6 +182,7 @@ transmitter-fit t f =
     h .version
     also h .exercise
     also h .timestamp
+    also (status-fits (t .header) h (transmitter-status t rules), refl)
     also h .site
     also h .application
     also h .entity
@@ -187,6 +193,7 @@ transmitter-fit t f =
     also e .version
     also e .nomenclature
     also e .state
+    also refl
     also a .x
     also a .y
     also a .z
@@ -220,6 +227,7 @@ signal-fit s n body f b e =
     h .version
     also h .exercise
     also h .timestamp
+    also (status-fits (s .header) h (bounds .status), refl)
     also h .site
     also h .application
     also h .entity
@@ -238,7 +246,7 @@ signal-fit s n body f b e =
 
 fit-form : (r : Reading) (body : List ℕ) → Fits r → Bytes body → first (recordRules r) ≡ 0 → Fit (tableOf r) (valuesOf r body)
 fit-form (Refused n) body f b e = absurd f
-fit-form (aTransmitter t) body f b e = transmitter-fit t f
+fit-form (aTransmitter t) body f b e = transmitter-fit t f e
 fit-form (aSignal s n) body f b e = signal-fit s n body f b e
 
 -- a record that the writer takes, written, reads back the same, and so does its body

@@ -2,6 +2,7 @@
 -- `num w o d` is the number in the w bytes of d from byte o on.
 use Prim.Native.Nat.{ℕ, _+_, _*_, _/_, _%_, _^_, _≤_, _<_}
 use mathlib.Core.Path.{_≡_}
+use mathlib.Core.Logic.{_≢_}
 use mathlib.Core.Bool.{cond}
 use mathlib.Core.List.{List, [], _∷_}
 use lib.ListN.{length, take, drop}
@@ -18,11 +19,13 @@ use Rattle.pdu.specs.declared.Transmitter.{Transmitter}
 use Rattle.pdu.specs.declared.Network.{Network}
 use Rattle.pdu.specs.declared.Signal.{Signal}
 
--- 01, "Bytes 0 to 19, both PDUs"
+-- 01, "Bytes 0 to 19, both PDUs"; 02, R-9: "byte 10 for PDU status", "0 for versions 5 and 6"
 pub record HeaderFields (d : List ℕ) (h : Header) : Type 0 where
   pub version : h .version ≡ num 1 0 d
   pub exercise : h .exercise ≡ num 1 1 d
   pub timestamp : h .timestamp ≡ num 4 4 d
+  pub status-7 : num 1 0 d ≡ 7 → h .status ≡ num 1 10 d % 2 ^ 8
+  pub status-before : num 1 0 d ≢ 7 → h .status ≡ 0
   pub site : h .site ≡ num 2 12 d
   pub application : h .application ≡ num 2 14 d
   pub entity : h .entity ≡ num 2 16 d

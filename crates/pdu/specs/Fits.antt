@@ -19,6 +19,7 @@ pub record FitsHeader (h : Header) : Type 0 where
   pub version : Bits 8 (h .version)
   pub exercise : Bits 8 (h .exercise)
   pub timestamp : Bits 32 (h .timestamp)
+  pub status : Bits 8 (h .status)
   pub site : Bits 16 (h .site)
   pub application : Bits 16 (h .application)
   pub entity : Bits 16 (h .entity)

@@ -4,7 +4,7 @@ use mathlib.Core.List.{List, [], _∷_}
 use lib.ListN.{length, take, drop}
 use Rattle.wire.specs.Table.{Slot, read, fill, clear}
 use Rattle.pdu.specs.Numbers
-use Rattle.pdu.specs.Tables.{signalSize, transmitterTable, bodySlots, bodyTable, signalTable}
+use Rattle.pdu.specs.Tables.{signalSize, isSeven, transmitterTable, bodySlots, bodyTable, signalTable}
 use Rattle.pdu.specs.Records.{transmitterValues, signalValues}
 use Rattle.pdu.specs.declared.Reading.{Reading}
 use Rattle.pdu.specs.declared.Reading.the-variants.{Refused, Transmitter, Signal}
@@ -12,8 +12,8 @@ use Rattle.pdu.specs.declared.Reading.the-variants.{Refused, Transmitter
 -- the table of the whole PDU; a refusal has none
 abbrev pub tableOf : Reading → List Slot
 tableOf (Refused n) = []
-tableOf (Transmitter t) = transmitterTable
-tableOf (Signal s n) = signalTable (s .network .«message_type») n
+tableOf (Transmitter t) = transmitterTable (isSeven (t .header .version))
+tableOf (Signal s n) = signalTable (isSeven (s .header .version)) (s .network .«message_type») n
 
 -- the values of a body of n bytes in a message of this type
 abbrev pub bodyValues : ℕ → ℕ → List ℕ → List ℕ

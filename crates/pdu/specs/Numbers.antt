@@ -1,7 +1,7 @@
 -- The numbers of document 01 that a table or a rule uses, each named once.
 use Prim.Native.Nat.{ℕ}
 
--- "Bytes 0 to 19, both PDUs": PDU types, family, the two versions, and the bytes that the first rules look at (refusal 1)
+-- "Bytes 0 to 19, both PDUs": PDU types, family, the versions (02, R-9: 7 too), and the bytes that the first rules look at (refusal 1)
 abbrev pub transmitterType : ℕ
 transmitterType = 25
 
@@ -16,6 +16,9 @@ olderVersion = 5
 
 abbrev pub newerVersion : ℕ
 newerVersion = 6
+
+abbrev pub statusVersion : ℕ
+statusVersion = 7
 
 abbrev pub shortest : ℕ
 shortest = 12
@@ -47,6 +50,10 @@ system = 8
 
 abbrev pub modulationLength : ℕ
 modulationLength = 8
+
+-- 02, R-9: the variable parameter records that a Transmitter of version 7 may have
+abbrev pub parameterRecords : ℕ
+parameterRecords = 0
 
 -- bytes 104 to 111: the highest TSA level, the first level with a synchronization ID, the modes, and the two synchronization states
 abbrev pub lastLevel : ℕ

@@ -18,11 +18,16 @@ use Rattle.pdu.specs.declared.Written.the-variants.{Refused, Size}
 
 -- ---- padding
 
--- a Transmitter with padding zero: "10 padding (2)", "30 padding (2)", "101 padding (3)"
+-- byte 10 with padding zero: the status in version 7, padding in versions 5 and 6 (02, R-9)
+abbrev pub plainStatus : List ℕ → ℕ
+plainStatus d = cond (eqb (num 1 0 d) 7) (getD d 10 0) 0
+
+-- a Transmitter with padding zero: "10 padding (2)", "30 padding (2)", "101 padding (3)"; in version 7 byte 10 is kept, and bytes 30 and 31 are zero
+-- already (02, R-9)
 abbrev pub plainTransmitterZero : List ℕ → List (List ℕ)
 plainTransmitterZero d =
     span 0 10 d
-    ∷ (0 ∷ 0 ∷ [])  -- 10, 11
+    ∷ (plainStatus d ∷ 0 ∷ [])  -- 10, 11
     ∷ span 12 30 d
     ∷ (0 ∷ 0 ∷ [])  -- 30, 31
     ∷ span 32 101 d
@@ -39,11 +44,12 @@ dataEnd d = 32 + num 2 28 d / 8
 abbrev pub plainGiven : ℕ → List ℕ → List ℕ
 plainGiven type body = cond (eqb type 1 || eqb type 2) (0 ∷ getD body 1 0 % 8 ∷ drop 2 body) body
 
--- a Signal with padding zero: "10 padding (2)", "38 padding (2)", of the slot ID "bits 17 to 23", which are the upper seven of byte 41, and the fill
+-- a Signal with padding zero: "10 padding (2)", of which version 7 keeps byte 10 (02, R-9); "38 padding (2)", of the slot ID "bits 17 to 23", which
+-- are the upper seven of byte 41, and the fill
 abbrev pub plainSignalZero : List ℕ → List (List ℕ)
 plainSignalZero d =
     span 0 10 d
-    ∷ (0 ∷ 0 ∷ [])  -- 10, 11
+    ∷ (plainStatus d ∷ 0 ∷ [])  -- 10, 11
     ∷ span 12 38 d
     ∷ (0 ∷ 0 ∷ [])  -- 38, 39
     ∷ (getD d 40 0 ∷ getD d 41 0 % 2 ∷ getD d 42 0 ∷ getD d 43 0 ∷ [])

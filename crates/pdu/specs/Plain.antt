@@ -17,11 +17,23 @@ use Rattle.pdu.specs.declared.Network.{Network}
 use Rattle.pdu.specs.declared.Reading.{Reading}
 use Rattle.pdu.specs.declared.Reading.the-variants.{Refused, Transmitter as aTransmitter, Signal as aSignal}
 
+-- 2: "Versions 5 and 6 are taken", and 7 (02, R-9)
+abbrev pub VersionRule : ℕ → Type 0
+VersionRule v = (v ≡ 5) ⊎ ((v ≡ 6) ⊎ (v ≡ 7))
+
+-- 52 in writing (02, R-9): "a status other than 0 with version 5 or 6"
+abbrev pub StatusRule : ℕ → ℕ → Type 0
+StatusRule v status = (v ≡ 5) ⊎ (v ≡ 6) → status ≡ 0
+
+-- 64 (02, R-9): "In version 7 bytes 30 and 31 of a Transmitter count variable parameter records; we take only 0"
+abbrev pub RecordsRule : List ℕ → Type 0
+RecordsRule d = num 1 0 d ≡ 7 → num 2 30 d ≡ 0
+
 -- 1, 2, 3, for what is asked of the PDU type (01: "Bytes 0 to 19, both PDUs")
 abbrev pub plainStart : Type 0 → List ℕ → List Rule
 plainStart type d =
     (1 unless (12 ≤ length d))
-    ∷ (2 unless ((num 1 0 d ≡ 5) ⊎ (num 1 0 d ≡ 6)))
+    ∷ (2 unless VersionRule (num 1 0 d))
     ∷ (3 unless (type × (num 1 3 d ≡ 4)))
     ∷ []
 
@@ -47,17 +59,18 @@ SyncRule level primary secondary state id =
     × ((state ≡ 2) ⊎ (state ≡ 3))
     × (level < 3 → id ≡ 0)
 
--- 4, 5, 6, 7, 8 of a Transmitter
+-- 4, 5, 6, 7, 64, 8 of a Transmitter
 abbrev pub plainTransmitterLayout : List ℕ → List Rule
 plainTransmitterLayout d =
     (4 unless LengthRule 104 d)
     ∷ (5 unless FixedRule d)
     ∷ (6 unless (num 1 100 d ≡ 8))
     ∷ (7 unless (num 2 70 d ≡ 0))
+    ∷ (64 unless RecordsRule d)
     ∷ (8 unless (length d ≡ 112))
     ∷ []
 
--- Transmitter: 1, 2, 3, 4, 5, 6, 7, 8, 9 (01: "Transmitter, 112 bytes")
+-- Transmitter: 1, 2, 3, 4, 5, 6, 7, 64, 8, 9 (01: "Transmitter, 112 bytes")
 abbrev pub plainTransmitter : List ℕ → List Rule
 plainTransmitter d =
     plainStart (num 1 2 d ≡ 25) d
@@ -145,10 +158,11 @@ plainSignal d = plainStart (num 1 2 d ≡ 26) d ++ (plainSignalLayout d ++ plain
 abbrev pub plainArchive : List ℕ → List Rule
 plainArchive d = plainStart (num 1 2 d ≡ 26) d ++ (plainSignalLayout d ++ (plainNetworkAt d ++ plainBodyAt d))
 
--- the rules of a Transmitter to be written: 2, 9
+-- the rules of a Transmitter to be written: 2, 52, 9
 abbrev pub plainTransmitterRecord : Transmitter → List Rule
 plainTransmitterRecord t =
-    (2 unless ((t .header .version ≡ 5) ⊎ (t .header .version ≡ 6)))
+    (2 unless VersionRule (t .header .version))
+    ∷ (52 unless StatusRule (t .header .version) (t .header .status))
     ∷ (9 unless SyncRule (t .sync .level) (t .sync .primary) (t .sync .secondary) (t .sync .state) (t .sync .id))
     ∷ []
 
@@ -158,18 +172,19 @@ plainInnerOf k n =
     plainNetwork (k .npg) (k .net) (k .tsec) (k .msec) (k .«message_type») (k .slot) (k .epoch)
     ++ ((50 unless LiveRule (k .«message_type»)) ∷ plainBody (k .«message_type») n)
 
--- the rules of a Signal to be written, with a body of n bytes: 2, 10, 131 to 138, 50, 14, 15
+-- the rules of a Signal to be written, with a body of n bytes: 2, 52, 10, 131 to 138, 50, 14, 15
 abbrev pub plainSignalRecord : Signal → ℕ → List Rule
 plainSignalRecord s n =
-    (2 unless ((s .header .version ≡ 5) ⊎ (s .header .version ≡ 6)))
+    (2 unless VersionRule (s .header .version))
+    ∷ (52 unless StatusRule (s .header .version) (s .header .status))
     ∷ (10 unless (s .encoding ≤ 16383))
     ∷ plainInnerOf (s .network) n
 
--- Writing: 2, 9, 16 for a Transmitter
+-- Writing: 2, 52, 9, 16 for a Transmitter
 abbrev pub plainTransmitterWriting : Transmitter → ℕ → List Rule
 plainTransmitterWriting t room = plainTransmitterRecord t ++ ((16 unless (112 ≤ room)) ∷ [])
 
--- 2, 10, 131 to 138, 50, 14, 15, 16 for a Signal: the room is at least each filled size, of which there is one
+-- 2, 52, 10, 131 to 138, 50, 14, 15, 16 for a Signal: the room is at least each filled size, of which there is one
 abbrev pub plainSignalWriting : Signal → ℕ → ℕ → List Rule
 plainSignalWriting s n room =
     plainSignalRecord s n ++ ((16 unless ((size : ℕ) → FilledTo (52 + n) size → size ≤ room)) ∷ [])

@@ -9,7 +9,7 @@ use Rattle.wire.specs.Bytes.{num}
 use Rattle.wire.specs.First.{Refusal, _given-when_, first, without, told}
 use Rattle.wire.specs.Table.{read}
 use Rattle.pdu.specs.Numbers
-use Rattle.pdu.specs.Tables.{filled, headerTable, transmitterTable, signalHead}
+use Rattle.pdu.specs.Tables.{filled, isSeven, headerTable, transmitterTable, signalHead}
 use Rattle.pdu.specs.Records.{headerFrom, transmitterFrom, transmitterValues, signalFrom, signalValues}
 use Rattle.pdu.specs.Rules.{wrongVersion, innerRules}
 use Rattle.pdu.specs.Forms.{bodyIn}
@@ -21,19 +21,23 @@ use Rattle.pdu.specs.declared.Reading.the-variants.{Refused, Transmitter
 
 -- ---- what a datagram holds, by its table
 
+-- whether byte 0 says version 7
+abbrev pub versionSeven : List ℕ → Bool
+versionSeven d = isSeven (num 1 0 d)
+
 -- the shared fields
 unfoldable pub headerOf : List ℕ → Header
-headerOf d = headerFrom (read 0 (headerTable 0 0) d)
+headerOf d = headerFrom (read 0 (headerTable (versionSeven d) 0 0) d)
 
 unfoldable pub transmitterOf : List ℕ → Transmitter
-transmitterOf d = transmitterFrom (read 0 transmitterTable d)
+transmitterOf d = transmitterFrom (read 0 (transmitterTable (versionSeven d)) d)
 
 -- the body's size that the data length gives
 abbrev pub bodySize : List ℕ → ℕ
 bodySize d = num 2 28 d / 8 - Numbers.networkBytes
 
 unfoldable pub signalOf : List ℕ → Signal
-signalOf d = signalFrom (read 0 (signalHead (bodySize d)) d)
+signalOf d = signalFrom (read 0 (signalHead (versionSeven d) (bodySize d)) d)
 
 -- whether byte 2 says Transmitter
 abbrev pub saysTransmitter : List ℕ → Bool
@@ -68,6 +72,10 @@ wrongFixed d =
     && eqb (num 2 92 d) Numbers.detail
     && eqb (num 2 94 d) Numbers.system)
 
+-- 64 (02, R-9): variable parameter records in version 7
+unfoldable pub wrongRecords : List ℕ → Bool
+wrongRecords d = versionSeven d && not (eqb (num 2 30 d) Numbers.parameterRecords)
+
 -- 12: whole bytes, and at least the network header
 unfoldable pub wrongBits : ℕ → Bool
 wrongBits bits = not (eqb (bits % 8) 0) || ltb bits (8 * Numbers.networkBytes)
@@ -80,13 +88,14 @@ startRules d =
     ∷ (3 given-when wrongType d)
     ∷ []
 
--- a Transmitter's 4, 5, 6, 7, 8
+-- a Transmitter's 4, 5, 6, 7, 64, 8
 unfoldable pub transmitterLayout : List ℕ → List Refusal
 transmitterLayout d =
     (4 given-when wrongLength Numbers.transmitterLeast d)
     ∷ (5 given-when wrongFixed d)
     ∷ (6 given-when not (eqb (num 1 100 d) Numbers.modulationLength))
     ∷ (7 given-when not (eqb (num 2 70 d) Numbers.patternLength))
+    ∷ (64 given-when wrongRecords d)
     ∷ (8 given-when not (eqb (length d) Numbers.transmitterSize))
     ∷ []
 

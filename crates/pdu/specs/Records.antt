@@ -1,5 +1,6 @@
 -- The records that the calls carry: each struct from the values of its own slots, and back. Positions count from 0 in each struct.
 use Prim.Native.Nat.{ℕ}
+use mathlib.Core.Bool.{true}
 use mathlib.Core.List.{List, [], _∷_, _++_}
 use lib.ListN.{getD, drop}
 use Rattle.wire.specs.Table.{counts}
@@ -21,19 +22,20 @@ headerFrom v =
       version = getD v 0 0;
       exercise = getD v 1 0;
       timestamp = getD v 2 0;
-      site = getD v 3 0;
-      application = getD v 4 0;
-      entity = getD v 5 0;
-      radio = getD v 6 0;
+      status = getD v 3 0;
+      site = getD v 4 0;
+      application = getD v 5 0;
+      entity = getD v 6 0;
+      radio = getD v 7 0;
     }
 
 abbrev pub headerValues : Header → List ℕ
 headerValues h =
-    h .version ∷ h .exercise ∷ h .timestamp ∷ h .site ∷ h .application ∷ h .entity ∷ h .radio ∷ []
+    h .version ∷ h .exercise ∷ h .timestamp ∷ h .status ∷ h .site ∷ h .application ∷ h .entity ∷ h .radio ∷ []
 
--- the values behind the header's
+-- the values behind the header's, which are as many in every version
 abbrev pub pastHeader : List ℕ → List ℕ
-pastHeader v = drop (counts (headerTable 0 0)) v
+pastHeader v = drop (counts (headerTable true 0 0)) v
 
 -- ---- a Transmitter
 
@@ -101,9 +103,9 @@ transmitterFrom v =
     record {
       header = headerFrom v;
       entity = entityFrom (pastHeader v);
-      antenna = antennaFrom (drop (counts entityTable) (pastHeader v));
-      emission = emissionFrom (drop (counts (entityTable ++ antennaTable)) (pastHeader v));
-      sync = syncFrom (drop (counts (entityTable ++ (antennaTable ++ emissionTable))) (pastHeader v));
+      antenna = antennaFrom (drop (counts (entityTable true)) (pastHeader v));
+      emission = emissionFrom (drop (counts (entityTable true ++ antennaTable)) (pastHeader v));
+      sync = syncFrom (drop (counts (entityTable true ++ (antennaTable ++ emissionTable))) (pastHeader v));
     }
 
 abbrev pub transmitterValues : Transmitter → List ℕ

@@ -5,16 +5,21 @@ use mathlib.Core.List.{List, [], _∷_, _++_}
 use lib.Dec.{eqb, ltb, leb}
 use Rattle.wire.specs.First.{Refusal, _given-when_}
 use Rattle.pdu.specs.Numbers
-use Rattle.pdu.specs.Tables.{isTiming}
+use Rattle.pdu.specs.Tables.{isSeven, isTiming}
 use Rattle.pdu.specs.Words.{wordsIn, wholeWords}
+use Rattle.pdu.specs.declared.Header.{Header}
 use Rattle.pdu.specs.declared.Sync.{Sync}
 use Rattle.pdu.specs.declared.Network.{Network}
 use Rattle.pdu.specs.declared.Reading.{Reading}
 use Rattle.pdu.specs.declared.Reading.the-variants.{Refused, Transmitter, Signal}
 
--- 2: versions 5 and 6 are taken
+-- 2: versions 5, 6 and 7 (02, R-9) are taken
 unfoldable pub wrongVersion : ℕ → Bool
-wrongVersion v = not (eqb v Numbers.olderVersion || eqb v Numbers.newerVersion)
+wrongVersion v = not (eqb v Numbers.olderVersion || (eqb v Numbers.newerVersion || isSeven v))
+
+-- 52 in writing (02, R-9): a status other than 0 in a version that has none
+unfoldable pub wrongStatus : Header → Bool
+wrongStatus h = not (isSeven (h .version)) && not (eqb (h .status) 0)
 
 -- "105 primary mode 1 or 2"
 abbrev pub isPrimary : ℕ → Bool

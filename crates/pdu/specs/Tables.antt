@@ -1,10 +1,10 @@
 -- The layouts: one table for each whole PDU, in byte order, body and fill included (source 000, Tables 3 and 5; IEEE 1278.1 for the DIS header),
--- as document 01 condenses them. Lengths are fixed values of the table; each struct of the record has a run of slots of its own.
+-- as document 01 condenses them and 02 changes them. Lengths are fixed values of the table; each struct of the record has a run of slots of its own.
 use Prim.Native.Nat.{ℕ, _+_, _-_, _*_, _/_}
 use mathlib.Core.Bool.{Bool, cond, _||_}
 use mathlib.Core.List.{List, [], _∷_, _++_}
 use lib.Dec.{eqb}
-use Rattle.wire.specs.Table.{Slot, kept, padding, one, parts, keep, only, skip}
+use Rattle.wire.specs.Table.{Part, Slot, kept, padding, one, parts, keep, only, skip}
 use Rattle.pdu.specs.Numbers
 
 -- a size filled to a multiple of 4 (01: "filled to a multiple of 4")
@@ -23,16 +23,33 @@ dataBits n = 8 * (Numbers.networkBytes + n)
 abbrev pub fillOf : ℕ → ℕ
 fillOf n = signalSize n - (Numbers.bodyStart + n)
 
--- 01, "Bytes 0 to 19, both PDUs", for the PDU type and the size given
-abbrev pub headerTable : ℕ → ℕ → List Slot
-headerTable type size =
+-- 02, R-9: whether a version is 7, on which it depends whether bytes 10, 30 and 31 are padding: the one place that decides it
+abbrev pub isSeven : ℕ → Bool
+isSeven version = eqb version Numbers.statusVersion
+
+-- so many bits in version 7, and none before it
+abbrev pub bitsIn : Bool → ℕ → ℕ
+bitsIn seven bits = cond seven bits 0
+
+-- byte 10 (02, R-9): the PDU status in version 7, padding before it
+abbrev pub statusParts : Bool → List Part
+statusParts seven = skip (8 - bitsIn seven 8) ∷ keep (bitsIn seven 8) ∷ []
+
+-- bytes 30 and 31 of a Transmitter (02, R-9): in version 7 they "count variable parameter records; we take only 0", padding before it
+abbrev pub recordsParts : Bool → List Part
+recordsParts seven = skip (16 - bitsIn seven 16) ∷ only (bitsIn seven 16) Numbers.parameterRecords ∷ []
+
+-- 01, "Bytes 0 to 19, both PDUs", for a version that is 7 or not, the PDU type and the size given
+abbrev pub headerTable : Bool → ℕ → ℕ → List Slot
+headerTable seven type size =
     kept 1  -- 0 protocol version
     ∷ kept 1  -- 1 exercise
     ∷ one 1 type  -- 2 PDU type
     ∷ one 1 Numbers.radioFamily  -- 3 family
     ∷ kept 4  -- 4 timestamp
     ∷ one 2 size  -- 8 length
-    ∷ padding 2  -- 10
+    ∷ parts 1 (statusParts seven)  -- 10 status, or padding
+    ∷ padding 1  -- 11
     ∷ kept 2  -- 12 site
     ∷ kept 2  -- 14 application
     ∷ kept 2  -- 16 entity
@@ -40,8 +57,8 @@ headerTable type size =
     ∷ []
 
 -- 01, "Transmitter, 112 bytes": bytes 20 to 31
-abbrev pub entityTable : List Slot
-entityTable =
+abbrev pub entityTable : Bool → List Slot
+entityTable seven =
     kept 1  -- 20 entity kind
     ∷ kept 1  -- 21 domain
     ∷ kept 2  -- 22 country
@@ -50,7 +67,7 @@ entityTable =
     ∷ kept 2  -- 26 nomenclature
     ∷ kept 1  -- 28 transmit state
     ∷ one 1 Numbers.inputSource  -- 29
-    ∷ padding 2  -- 30
+    ∷ parts 2 (recordsParts seven)  -- 30 variable parameter records, or padding
     ∷ []
 
 -- bytes 32 to 71
@@ -93,10 +110,10 @@ syncTable =
     ∷ []
 
 -- 01, "Transmitter, 112 bytes"
-abbrev pub transmitterTable : List Slot
-transmitterTable =
-    headerTable Numbers.transmitterType Numbers.transmitterSize
-    ++ (entityTable ++ (antennaTable ++ (emissionTable ++ syncTable)))
+abbrev pub transmitterTable : Bool → List Slot
+transmitterTable seven =
+    headerTable seven Numbers.transmitterType Numbers.transmitterSize
+    ++ (entityTable seven ++ (antennaTable ++ (emissionTable ++ syncTable)))
 
 -- 01, "Signal": bytes 20 to 31, for a body of n bytes
 abbrev pub encodingTable : ℕ → List Slot
@@ -122,8 +139,8 @@ networkTable =
     ∷ []
 
 -- bytes 0 to 51, for a body of n bytes
-abbrev pub signalHead : ℕ → List Slot
-signalHead n = headerTable Numbers.signalType (signalSize n) ++ (encodingTable n ++ networkTable)
+abbrev pub signalHead : Bool → ℕ → List Slot
+signalHead seven n = headerTable seven Numbers.signalType (signalSize n) ++ (encodingTable n ++ networkTable)
 
 -- 02, R-1: whether a message type is one of round-trip timing
 abbrev pub isTiming : ℕ → Bool
@@ -142,8 +159,8 @@ abbrev pub bodyTable : ℕ → ℕ → List Slot
 bodyTable type n = bodySlots type n ++ (padding (fillOf n) ∷ [])
 
 -- 01, "Signal", for a message of this type with a body of n bytes
-abbrev pub signalTable : ℕ → ℕ → List Slot
-signalTable type n = signalHead n ++ bodyTable type n
+abbrev pub signalTable : Bool → ℕ → ℕ → List Slot
+signalTable seven type n = signalHead seven n ++ bodyTable type n
 
 -- 01, "A word is an 80-bit number": sublabel in bits 7 to 9, label in 2 to 6, format in 0 and 1
 abbrev pub wordTable : List Slot

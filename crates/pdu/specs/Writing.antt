@@ -8,9 +8,10 @@ use Rattle.wire.specs.First.{Refusal, _given-when_, first, told}
 use Rattle.wire.specs.Table.{clear, allBlank}
 use Rattle.pdu.specs.Numbers
 use Rattle.pdu.specs.Tables.{bodySlots}
-use Rattle.pdu.specs.Rules.{wrongVersion, innerRules}
+use Rattle.pdu.specs.Rules.{wrongVersion, wrongStatus, innerRules}
 use Rattle.pdu.specs.Forms.{tableOf, bytesOf, sizeOf}
 use Rattle.pdu.specs.Reading.{signalOf, bodySize, content, bodyOf, formRules, refusal, readingSays}
+use Rattle.pdu.specs.declared.Header.{Header}
 use Rattle.pdu.specs.declared.Reading.{Reading}
 use Rattle.pdu.specs.declared.Reading.the-variants.{Refused as NotRead, Transmitter, Signal}
 use Rattle.pdu.specs.declared.Written.{Written}
@@ -18,16 +19,19 @@ use Rattle.pdu.specs.declared.Written.the-variants.{Refused, Size}
 use Rattle.pdu.specs.declared.Carried.{Carried}
 use Rattle.pdu.specs.declared.Carried.the-variants.{Other, Pdu}
 
--- the rules of a record: 2, 9 of a Transmitter; 2, 10, 131 to 138, 50, 14, 15 of a Signal. A refusal is no record
+-- 2, and 52 (02, R-9), of a header to be written
+abbrev pub headRules : Header → List Refusal
+headRules h = (2 given-when wrongVersion (h .version)) ∷ (52 given-when wrongStatus h) ∷ []
+
+-- the rules of a record: 2, 52, 9 of a Transmitter; 2, 52, 10, 131 to 138, 50, 14, 15 of a Signal. A refusal is no record
 unfoldable pub recordRules : Reading → List Refusal
 recordRules (NotRead n) = (2 given-when true) ∷ []
-recordRules (Transmitter t) = (2 given-when wrongVersion (t .header .version)) ∷ innerRules (Transmitter t)
+recordRules (Transmitter t) = headRules (t .header) ++ innerRules (Transmitter t)
 recordRules (Signal s n) =
-    (2 given-when wrongVersion (s .header .version))
-    ∷ (10 given-when ltb (Numbers.encodingKept - 1) (s .encoding))
-    ∷ innerRules (Signal s n)
+    headRules (s .header)
+    ++ ((10 given-when ltb (Numbers.encodingKept - 1) (s .encoding)) ∷ innerRules (Signal s n))
 
--- "Writing: 2, then 9, 16 for a Transmitter or 10, 13, 14, 15, 16 for a Signal", with 131 to 138 for 13 (02, R-3) and 50 before 14 (R-4)
+-- "Writing: 2, then 9, 16 for a Transmitter or 10, 13, 14, 15, 16 for a Signal", with 131 to 138 for 13 (02, R-3) and 50 before 14 (R-4), 52 after 2 (R-9)
 unfoldable pub writingRules : Reading → ℕ → List Refusal
 writingRules r room = recordRules r ++ ((16 given-when ltb room (sizeOf r)) ∷ [])
 

@@ -15,6 +15,9 @@ pub const OLDER_VERSION: u8 = 5;
 
 pub const NEWER_VERSION: u8 = 6;
 
+// Version 7 has a status in byte 10 (request R-9), which versions 5 and 6 have not.
+pub const STATUS_VERSION: u8 = 7;
+
 pub const SHORTEST: usize = 12;
 
 // A Transmitter: its size, the least its length field may say, and its fields of one allowed value.
@@ -35,6 +38,9 @@ pub const DETAIL: u16 = 0;
 pub const SYSTEM: u16 = 8;
 
 pub const MODULATION_LENGTH: u8 = 8;
+
+// The variable parameter records of a Transmitter of version 7.
+pub const PARAMETER_RECORDS: u16 = 0;
 
 // Bytes 104 to 111.
 pub const LAST_LEVEL: u8 = 4;
@@ -133,11 +139,12 @@ pub const SUBLABEL_UNIT: u16 = 128;
 
 pub const SUBLABELS: u16 = 8;
 
-// Bytes 0 to 19, which both PDUs share; type, family, length and padding are not kept.
+// Bytes 0 to 19, which both PDUs share; type, family, length and padding are not kept. The status is 0 in versions 5 and 6.
 pub struct Header {
     pub version: u8,
     pub exercise: u8,
     pub timestamp: u32,
+    pub status: u8,
     pub site: u16,
     pub application: u16,
     pub entity: u16,

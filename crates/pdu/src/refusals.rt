@@ -5,6 +5,9 @@ pub const SHORT: u8 = 1;
 
 pub const VERSION: u8 = 2;
 
+// In writing, a status in a version that has none (request R-9).
+pub const STATUS: u8 = 52;
+
 // Type or family.
 pub const TYPE: u8 = 3;
 
@@ -17,6 +20,9 @@ pub const RADIO: u8 = 5;
 pub const MODULATION_LENGTH: u8 = 6;
 
 pub const PATTERN_LENGTH: u8 = 7;
+
+// Variable parameter records in a Transmitter of version 7 (request R-9).
+pub const PARAMETER_RECORDS: u8 = 64;
 
 // The PDU is not 112 bytes, or not the filled size.
 pub const PDU_SIZE: u8 = 8;

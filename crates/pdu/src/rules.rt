@@ -2,19 +2,35 @@
 ghost use mathlib.Core.Path.{_≡_};
 ghost use Prim.Native.Nat.{_+_};
 ghost use Rattle.wire.specs.First.{first};
-ghost use Rattle.pdu.specs.Tables.{filled, signalSize, isTiming};
+ghost use Rattle.pdu.specs.Tables.{filled, signalSize, isSeven, isTiming};
 ghost use Rattle.pdu.specs.Words.{wordsIn};
-ghost use Rattle.pdu.specs.Rules.{wrongVersion, isPrimary, wrongSync, wrongSecurity, accessRules, isTooLate, slotRules, networkRules, isRetired};
+ghost use Rattle.pdu.specs.Rules.{wrongVersion, wrongStatus, isPrimary, wrongSync, wrongSecurity, accessRules, isTooLate, slotRules, networkRules, isRetired};
 ghost use Rattle.pdu.specs.Rules.{liveRules, wrongTiming, bodyRules};
+use crate::Header;
 use crate::Network;
 use crate::Sync;
 use crate::refusals;
+
+// Whether a version is 7, which has a status.
+pub fn is_seven(version: u8) -> bool
+    ensures { λ r. ⌜ r ≡ isSeven version ⌝ }
+{
+    version == crate::STATUS_VERSION
+}
 
 // Whether refusal 2 applies to a version.
 pub fn wrong_version(v: u8) -> bool
     ensures { λ r. ⌜ r ≡ wrongVersion v ⌝ }
 {
-    wire::no(wire::either(v == crate::OLDER_VERSION, v == crate::NEWER_VERSION))
+    let newer = wire::either(v == crate::NEWER_VERSION, is_seven(v));
+    wire::no(wire::either(v == crate::OLDER_VERSION, newer))
+}
+
+// Whether refusal 52 applies.
+pub fn wrong_status(h: Header) -> bool
+    ensures { λ r. ⌜ r ≡ wrongStatus h ⌝ }
+{
+    wire::both(wire::no(is_seven(h.version)), wire::no(h.status == 0))
 }
 
 // Whether a primary mode is one of the two.

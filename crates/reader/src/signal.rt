@@ -158,7 +158,7 @@ fn is_blank(d: &[u8]) -> bool
     let end = body_end(d);
     let inside = wire::both(is_slot_blank(d), is_body_blank(d));
     let late = wire::both(inside, wire::is_zero(&d[end..]));
-    wire::both(wire::u16_at(d, 10) == 0, late)
+    wire::both(start::is_blank(d), late)
 }
 
 // Whether no rule from 4 on is broken, and every padding bit and the fill is zero. It goes by the parts of `refusal`, so that these are inlined

@@ -3,10 +3,11 @@ ghost use mathlib.Core.Path.{_≡_};
 ghost use Prim.Native.Nat.{_≤_};
 ghost use lib.ListN.{length};
 ghost use Rattle.wire.specs.First.{first};
-ghost use Rattle.wire.specs.Table.{width};
+ghost use mathlib.Core.Bool.{true};
+ghost use Rattle.wire.specs.Table.{width, allBlank};
 ghost use Rattle.pdu.specs.Numbers.{shortest};
 ghost use Rattle.pdu.specs.Tables.{headerTable};
-ghost use Rattle.pdu.specs.Reading.{headerOf, wrongType, wrongLength, startRules};
+ghost use Rattle.pdu.specs.Reading.{versionSeven, headerOf, wrongType, wrongLength, startRules};
 use pdu::Header;
 use pdu::refusals;
 
@@ -48,15 +49,38 @@ pub(crate) fn wrong_length(least: u16, d: &[u8]) -> bool
     wire::either(wire::no(field as usize == d.len()), field < least)
 }
 
+// The status in byte 10, which versions 5 and 6 have not.
+fn read_status(d: &[u8]) -> u8
+    requires { ⌜ width (headerTable true 0 0) ≤ length (now d) ⌝ }
+    ensures { λ r. ⌜ r ≡ headerOf (now (d .entry)) .status ⌝ }
+{
+    if pdu::rules::is_seven(wire::u8_at(d, 0)) {
+        return wire::u8_at(d, 10);
+    }
+    0
+}
+
+// Whether the padding of the shared bytes is zero: byte 11, and byte 10 where it is no status.
+pub(crate) fn is_blank(d: &[u8]) -> bool
+    requires { ⌜ width (headerTable true 0 0) ≤ length (now d) ⌝ }
+    ensures { λ r. ⌜ r ≡ allBlank 0 (headerTable (versionSeven (now (d .entry))) 0 0) (now (d .entry)) ⌝ }
+{
+    if pdu::rules::is_seven(wire::u8_at(d, 0)) {
+        return wire::u8_at(d, 11) == 0;
+    }
+    wire::u16_at(d, 10) == 0
+}
+
 // The shared fields.
 pub(crate) fn read_header(d: &[u8]) -> Header
-    requires { ⌜ width (headerTable 0 0) ≤ length (now d) ⌝ }
+    requires { ⌜ width (headerTable true 0 0) ≤ length (now d) ⌝ }
     ensures { λ r. ⌜ r ≡ headerOf (now (d .entry)) ⌝ }
 {
     Header {
         version: wire::u8_at(d, 0),
         exercise: wire::u8_at(d, 1),
         timestamp: wire::u32_at(d, 4),
+        status: read_status(d),
         site: wire::u16_at(d, 12),
         application: wire::u16_at(d, 14),
         entity: wire::u16_at(d, 16),

@@ -6,7 +6,7 @@ ghost use Rattle.wire.specs.First.{first};
 ghost use Rattle.wire.specs.Table.{allBlank};
 ghost use Rattle.pdu.specs.Numbers.{shortest, transmitterLeast, transmitterSize};
 ghost use Rattle.pdu.specs.Tables.{transmitterTable};
-ghost use Rattle.pdu.specs.Reading.{transmitterOf, wrongFixed, transmitterLayout, formRules};
+ghost use Rattle.pdu.specs.Reading.{versionSeven, transmitterOf, wrongFixed, wrongRecords, transmitterLayout, formRules};
 ghost use Rattle.pdu.specs.Writing.{writtenAs};
 ghost use Rattle.pdu.specs.declared.Reading.the-variants.{Transmitter as aTransmitter};
 use crate::start;
@@ -33,7 +33,16 @@ fn wrong_fixed(d: &[u8]) -> bool
     wire::no(wire::both(modulation, wire::u16_at(d, 94) == pdu::SYSTEM))
 }
 
-// The number of the first broken rule of 4 to 8, or 0.
+// Whether refusal 64 applies.
+fn wrong_records(d: &[u8]) -> bool
+    requires { ⌜ transmitterLeast ≤ length (now d) ⌝ }
+    ensures { λ r. ⌜ r ≡ wrongRecords (now (d .entry)) ⌝ }
+{
+    let seven = pdu::rules::is_seven(wire::u8_at(d, 0));
+    wire::both(seven, wire::u16_at(d, 30) != pdu::PARAMETER_RECORDS)
+}
+
+// The number of the first broken rule of 4 to 7, 64 and 8, or 0.
 fn layout_refusal(d: &[u8]) -> u8
     requires { ⌜ shortest ≤ length (now d) ⌝ }
     ensures { λ r. ⌜ r ≡ first (transmitterLayout (now (d .entry))) ⌝ }
@@ -49,6 +58,9 @@ fn layout_refusal(d: &[u8]) -> u8
     }
     if wire::u16_at(d, 70) != pdu::PATTERN_LENGTH {
         return refusals::PATTERN_LENGTH;
+    }
+    if wrong_records(d) {
+        return refusals::PARAMETER_RECORDS;
     }
     if d.len() != pdu::TRANSMITTER_SIZE {
         return refusals::PDU_SIZE;
@@ -141,13 +153,13 @@ pub(crate) fn fields(d: &[u8]) -> Transmitter
     }
 }
 
-// Whether every padding byte is zero.
+// Whether every padding byte of a Transmitter with its layout is zero. Bytes 30 and 31 are so in version 7, where they are no padding.
 fn is_blank(d: &[u8]) -> bool
-    requires { ⌜ transmitterSize ≤ length (now d) ⌝ }
-    ensures { λ r. ⌜ r ≡ allBlank 0 transmitterTable (now (d .entry)) ⌝ }
+    requires { ⌜ first (transmitterLayout (now d)) ≡ 0 ⌝ }
+    ensures { λ r. ⌜ r ≡ allBlank 0 (transmitterTable (versionSeven (now (d .entry)))) (now (d .entry)) ⌝ }
 {
     let late = wire::both(wire::u16_at(d, 30) == 0, wire::u24_at(d, 101) == 0);
-    wire::both(wire::u16_at(d, 10) == 0, late)
+    wire::both(start::is_blank(d), late)
 }
 
 // Whether no rule from 4 on is broken, and every padding byte is zero. It goes by the parts of `refusal`, so that these are inlined here too.

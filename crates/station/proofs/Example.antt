@@ -2,9 +2,9 @@
 -- Assumes nothing.
 use mathlib.Core.Path.{refl}
 use Rattle.occupancy.specs.Places.{least, wordOf}
-use Rattle.pdu.specs.Rules.{wrongVersion, wrongSync, accessRules, slotRules, networkRules, liveRules, bodyRules, innerRules}
-use Rattle.pdu.specs.Reading.{transmitterOf, signalOf, content, wrongType, wrongLength, wrongFixed, wrongBits, startRules, transmitterLayout}
-use Rattle.pdu.specs.Reading.{signalLayout, readingRules, refusal, reading}
+use Rattle.pdu.specs.Rules.{wrongVersion, wrongStatus, wrongSync, accessRules, slotRules, networkRules, liveRules, bodyRules, innerRules}
+use Rattle.pdu.specs.Reading.{transmitterOf, signalOf, content, wrongType, wrongLength, wrongFixed, wrongRecords, wrongBits, startRules}
+use Rattle.pdu.specs.Reading.{transmitterLayout, signalLayout, readingRules, refusal, reading}
 use Rattle.pdu.specs.Words.{wordAt}
 use Rattle.pdu.specs.Tables.{bodySlots}
 use Rattle.pdu.specs.Forms.{bytesOf}
@@ -17,7 +17,7 @@ use Rattle.station.specs.Example.{ExampleRuns}
 pub runs : ExampleRuns
 unfolding bodySlots bytesOf wordAt wrongVersion wrongSync accessRules slotRules networkRules liveRules bodyRules innerRules transmitterOf signalOf content
     wrongType wrongLength
-    wrongFixed wrongBits startRules transmitterLayout signalLayout readingRules refusal reading
+    wrongFixed wrongRecords wrongStatus wrongBits startRules transmitterLayout signalLayout readingRules refusal reading
     least wordOf fresh made placeOf enter
     renew hearTransmitter otherId stationRules labelled wordSaying messageOf afterJ00 afterTiming afterPpli hearMessage hearSignal step heard atTime clocked
 runs = record {

@@ -15,7 +15,7 @@ use Rattle.station.specs.declared.State.the-variants.{Coarse, Fine}
 use Rattle.station.specs.declared.Station.{Station}
 
 abbrev pub header : Header
-header = record { version = 6; exercise = 1; timestamp = 0; site = 1; application = 2; entity = 3; radio = 4 }
+header = record { version = 6; exercise = 1; timestamp = 0; status = 0; site = 1; application = 2; entity = 3; radio = 4 }
 
 -- a Transmitter that is fine, of this level, with ID 9
 abbrev pub unit : ℕ → Call

@@ -13,11 +13,11 @@ use native.Mathlib.Omega.{arith}
 use borrow.Author.Tests.{eqb-true, ltb-true}
 use Rattle.wire.specs.Bytes.{big, Bytes}
 use Rattle.wire.proofs.TableLaws.{both-true}
-use Rattle.pdu.specs.Rules.{wrongVersion, wrongSync, accessRules, slotRules, networkRules, liveRules, bodyRules, innerRules}
+use Rattle.pdu.specs.Rules.{wrongVersion, wrongStatus, wrongSync, accessRules, slotRules, networkRules, liveRules, bodyRules, innerRules}
 use Rattle.pdu.specs.Tables.{bodySlots}
 use Rattle.pdu.specs.Forms.{bytesOf}
-use Rattle.pdu.specs.Reading.{transmitterOf, signalOf, content, wrongType, wrongLength, wrongFixed, wrongBits, startRules, transmitterLayout}
-use Rattle.pdu.specs.Reading.{signalLayout, readingRules, refusal, reading}
+use Rattle.pdu.specs.Reading.{transmitterOf, signalOf, content, wrongType, wrongLength, wrongFixed, wrongRecords, wrongBits, startRules}
+use Rattle.pdu.specs.Reading.{transmitterLayout, signalLayout, readingRules, refusal, reading}
 use Rattle.pdu.specs.Writing.{writtenForm, inWrittenForm}
 use Rattle.pdu.specs.Words.{wordAt}
 use Rattle.station.specs.Runs.{least, wordOf}
@@ -112,14 +112,15 @@ fair-says l (c ∷ cs) e =
 unfoldable pub zeros : ℕ → List ℕ
 zeros n = replicate n 0
 
--- bytes 0 to 19 of version 6, exercise 1: the PDU type, its length, and the unit of site 1, application 2, entity 3, radio 4
-unfoldable pub start-of : ℕ → ℕ → List ℕ
-start-of type size = (6 ∷ 1 ∷ type ∷ 4 ∷ zeros 4) ++ big 2 size ++ (0 ∷ 0 ∷ 0 ∷ 1 ∷ 0 ∷ 2 ∷ 0 ∷ 3 ∷ 0 ∷ 4 ∷ [])
+-- bytes 0 to 19 of exercise 1: the version, byte 10, the PDU type, its length, and the unit of site 1, application 2, entity 3, radio 4
+unfoldable pub start-of : ℕ → ℕ → ℕ → ℕ → List ℕ
+start-of version status type size =
+    (version ∷ 1 ∷ type ∷ 4 ∷ zeros 4) ++ big 2 size ++ (status ∷ 0 ∷ 0 ∷ 1 ∷ 0 ∷ 2 ∷ 0 ∷ 3 ∷ 0 ∷ 4 ∷ [])
 
--- the unit's Transmitter: level 4, in fine synchronization
-unfoldable pub unit : List ℕ
-unit =
-    start-of 25 112
+-- the unit's Transmitter: level 4, in fine synchronization; version 6, whose byte 10 is padding
+unfoldable pub unit : ℕ → List ℕ
+unit padding =
+    start-of 6 padding 25 112
     ++ (zeros 4 ++ (21 ∷ zeros 4 ++ (8 ∷ zeros 60)))
     ++ (0 ∷ 7 ∷ 0 ∷ 0 ∷ 0 ∷ 8 ∷ zeros 4 ++ (8 ∷ zeros 3))
     ++ (4 ∷ 1 ∷ 0 ∷ 3 ∷ zeros 4)
@@ -127,7 +128,7 @@ unit =
 -- its type 0 Signal on net 0 with so many words, whose bytes are given; of no words where there are none
 unfoldable pub signal : ℕ → List ℕ → ℕ → List ℕ
 signal size words fill =
-    start-of 26 size
+    start-of 6 0 26 size
     ++ (big 2 16384 ++ big 2 100 ++ zeros 4 ++ big 2 (8 * (26 + length words)) ++ zeros 2)
     ++ zeros 20
     ++ (zeros 6 ++ words ++ zeros fill)
@@ -139,10 +140,10 @@ entry-message = signal 68 (zeros 10) 0
 unfoldable pub order : List ℕ
 order = signal 60 [] 2
 
--- its timing reply, a Signal of type 2, whose first two body bytes are given: the padding inside the body, and three bits of the field
+-- its timing reply, a Signal of type 2 and version 7 with status 17, whose first two body bytes are given: the padding inside the body, and three bits of the field
 unfoldable pub timing : ℕ → ℕ → List ℕ
 timing a b =
-    start-of 26 60
+    start-of 7 17 26 60
     ++ (big 2 16384 ++ big 2 100 ++ zeros 4 ++ big 2 208 ++ zeros 2)
     ++ (zeros 5 ++ (2 ∷ zeros 14))
     ++ (a ∷ b ∷ 1 ∷ 2 ∷ 3 ∷ 4 ∷ zeros 2)
@@ -178,7 +179,7 @@ unfoldable pub arriving : List ℕ → Call
 arriving r = to-far r (replicate 8 170) (replicate longestPdu 170)
 
 unfoldable pub record-0 : List ℕ
-record-0 = recordOf (headFor 16 0) unit
+record-0 = recordOf (headFor 16 0) (unit 0)
 
 unfoldable pub record-1 : List ℕ
 record-1 = recordOf (headFor 1 1) entry-message
@@ -190,7 +191,7 @@ record-2 = recordOf (headFor 18 2) (timing 0 5)
 -- each call with its answer
 unfoldable pub story : List (Call × Said)
 story =
-    (offer unit, offer-said (Taken 0))
+    (offer (unit 5), offer-said (Taken 0))
     ∷ (offer (zeros 11), offer-said (offerRefused 1))
     ∷ (offer entry-message, offer-said (Taken 1))
     ∷ (offer (timing 255 253), offer-said (Taken 2))
@@ -243,7 +244,8 @@ computed :
 unfolding fair allowed among same said story before after-all sending arriving record-0 record-1 record-2 unit entry-message order
     signal timing start-of zeros offered storeAfter offerRulesOf sent sentOut sendRules replied replyRules arrived isNext countAfter replyAfter
     outputAfter arrivalRules ticked recordOf load unknownKind wrongSize isReply lastOfAll wrongCarried formRules pduRules wrongVersion
-    wrongType wrongLength wrongFixed wrongSync wrongBits networkRules liveRules bodyRules readingRules refusal content reading transmitterOf
+    wrongType wrongLength wrongFixed wrongRecords wrongStatus wrongSync wrongBits networkRules liveRules bodyRules readingRules refusal
+    content reading transmitterOf
     signalOf writtenForm inWrittenForm accessRules slotRules innerRules bodySlots bytesOf startRules transmitterLayout signalLayout wordAt
     least wordOf fresh made placeOf enter renew hearTransmitter otherId stationRules labelled wordSaying messageOf afterJ00 afterTiming afterPpli
     hearMessage hearSignal station-step heard atTime clocked

@@ -37,6 +37,9 @@ fn record_refusal(s: Signal, n: usize) -> u8
     if pdu::rules::wrong_version(s.header.version) {
         return refusals::VERSION;
     }
+    if pdu::rules::wrong_status(s.header) {
+        return refusals::STATUS;
+    }
     if pdu::ENCODING_KEPT - 1 < s.encoding {
         return refusals::ENCODING;
     }

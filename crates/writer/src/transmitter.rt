@@ -1,5 +1,6 @@
 // Writing a Transmitter: straight into the lent output, each function the bytes of a struct.
 ghost use mathlib.Core.Path.{_≡_};
+ghost use mathlib.Core.Bool.{true};
 ghost use mathlib.Core.List.{[]};
 ghost use Prim.Native.Nat.{_≤_};
 ghost use lib.ListN.{length};
@@ -26,6 +27,9 @@ pub(crate) fn refusal(t: Transmitter, room: usize) -> u8
     if pdu::rules::wrong_version(t.header.version) {
         return refusals::VERSION;
     }
+    if pdu::rules::wrong_status(t.header) {
+        return refusals::STATUS;
+    }
     if pdu::rules::wrong_sync(t.sync) {
         return refusals::MODULATION;
     }
@@ -35,10 +39,10 @@ pub(crate) fn refusal(t: Transmitter, room: usize) -> u8
     0
 }
 
-// Writes bytes 20 to 31.
+// Writes bytes 20 to 31; the last two are zero in every version.
 fn put_entity(out: &mut [u8], e: Entity)
     requires { ⌜ transmitterSize ≤ length (now out) ⌝ }
-    ensures { λ _. ⌜ now (out .exit) ≡ splice 20 (fill entityTable (entityValues e)) (now (out .entry)) ⌝ }
+    ensures { λ _. ⌜ now (out .exit) ≡ splice 20 (fill (entityTable true) (entityValues e)) (now (out .entry)) ⌝ }
 {
     wire::put_u8_x2_u16(out, 20, e.kind, e.domain, e.country);
     wire::put_u8_x2_u16(out, 24, pdu::CATEGORY, e.version, e.nomenclature);

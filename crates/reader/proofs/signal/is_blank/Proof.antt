@@ -1,8 +1,9 @@
--- `is_blank` meets its contract: the tests, joined, are those of the whole table's padding; the fill is zero where its number is (`zero-end`).
+-- `is_blank` meets its contract: the tests, joined, are those of the whole table's padding, the shared bytes' first (`blank-append`); the fill is
+-- zero where its number is (`zero-end`).
 -- Assumes nothing.
 use Prim.Native.Nat.{ℕ, _+_, _/_, _%_}
 use mathlib.Core.Path.{_≡_, refl, sym, ap, _∙_}
-use mathlib.Core.List.{List}
+use mathlib.Core.List.{List, _++_}
 use mathlib.Core.Bool.{Bool, true, false, _&&_}
 use lib.ListN.{drop}
 use lib.Dec.{eqb}
@@ -10,9 +11,11 @@ use denote.Ref.{now}
 use native.Mathlib.Omega.{arith}
 use Rattle.wire.specs.Bytes.{num, allZero}
 use Rattle.wire.proofs.PartLaws.{zero-end, part-rest}
-use Rattle.pdu.specs.Numbers.{bodyStart}
-use Rattle.pdu.specs.Tables.{fillOf}
-use Rattle.pdu.specs.Reading.{signalOf, bodySize}
+use Rattle.wire.specs.Table.{allBlank}
+use Rattle.wire.proofs.AppendLaws.{blank-append}
+use Rattle.pdu.specs.Numbers.{signalType, bodyStart}
+use Rattle.pdu.specs.Tables.{signalSize, fillOf, headerTable, encodingTable, networkTable, bodyTable}
+use Rattle.pdu.specs.Reading.{versionSeven, signalOf, bodySize}
 use Rattle.pdu.specs.Writing.{bodyBlank}
 use Rattle.pdu.proofs.BodyLaws.{body-blank}
 use Rattle.pdu.proofs.ReadLaws.{signal-laid}
@@ -55,13 +58,17 @@ is-zero-requires c κs = search needs
 both-requires-2 : tie.Need-both-requires-2
 both-requires-2 c κs = search needs
 
-u16-at-requires : tie.Need-u16-at-requires
-u16-at-requires c κs = search needs
+is-blank-requires : tie.Need-is-blank-requires
+is-blank-requires c κs =
+    let inside = c .before .before .before in
+    let ends = inside .before .before .before in
+    omega (arith, signal-laid _ (ends .before .before .pre .0) .size)
 
 both-requires-3 : tie.Need-both-requires-3
 both-requires-3 c κs = search needs
 
 returns : tie.Need-returns
+unfolding signalOf
 returns c =
     let zeros = c .before .before .before in
     let inside = zeros .before .before in
@@ -70,6 +77,10 @@ returns c =
     let laid = signal-laid d (ends .before .before .pre .0) in
     let n = bodySize d in
     let own = bodyBlank d in
+    let seven = versionSeven d in
+    let header = headerTable seven signalType (signalSize n) in
+    let behind = encodingTable n ++ (networkTable ++ bodyTable (signalOf d .network .«message_type») n) in
+    let shared : Bool = allBlank 0 (headerTable seven 0 0) d in
     let fill-zero : zeros .is-zero .result ≡ eqb (num (fillOf n) (bodyStart + n) d) 0 =
     zeros .is-zero .ensures
     ∙ ap allZero (part-rest (ends .body-end .result) d)
@@ -77,17 +88,18 @@ returns c =
     ∙ zero-end (fillOf n) (bodyStart + n) d (omega (arith, laid .size)) in
     rw (
       c .both3 .ensures,
-      c .before .u16-at .ensures,
+      c .before .is-blank .ensures,
       c .before .before .both2 .ensures,
       inside .both .ensures,
       inside .before .is-body-blank .ensures,
       inside .before .before .is-slot-blank .ensures,
       fill-zero,
     )
-    (ap (λ (t : Bool). eqb (num 2 10 d) 0 && t)
-    (regroup (eqb (num 2 38 d) 0) (eqb (num 4 40 d / 131072 % 128) 0 && true) own (eqb (num (fillOf n) (bodyStart + n) d) 0))
-    ∙ ap (λ (t : Bool). eqb (num 2 10 d) 0 && (eqb (num 2 38 d) 0 && (eqb (num 4 40 d / 131072 % 128) 0 && true && t)))
+    (ap (λ (t : Bool). shared && t)
+    (regroup (eqb (num 2 38 d) 0) (eqb (num 4 40 d / 131072 % 128) 0 && true) own (eqb (num (fillOf n) (bodyStart + n) d) 0)
+    ∙ ap (λ (t : Bool). eqb (num 2 38 d) 0 && (eqb (num 4 40 d / 131072 % 128) 0 && true && t))
     (sym (body-blank (signalOf d .network .«message_type») n bodyStart d)))
+    ∙ sym (blank-append header behind 0 d))
 
 pub is-blank-spec : {M : Type 1} → statement M
 is-blank-spec =
@@ -102,6 +114,6 @@ is-blank-spec =
     part-is-zero-end
     is-zero-requires
     both-requires-2
-    u16-at-requires
+    is-blank-requires
     both-requires-3
     returns)

@@ -14,6 +14,9 @@ u8-at-requires-2 c κs = search needs
 u32-at-requires : tie.Need-u32-at-requires
 u32-at-requires c κs = search needs
 
+read-status-requires : tie.Need-read-status-requires
+read-status-requires c κs = search needs
+
 u16-at-requires : tie.Need-u16-at-requires
 u16-at-requires c κs = search needs
 
@@ -29,13 +32,15 @@ u16-at-requires-4 c κs = search needs
 returns : tie.Need-returns
 unfolding headerOf
 returns c =
-    let early = c .before .before .before in
+    let late = c .before .before .before in
+    let early = late .before .before in
     λ i.
     record {
-      version = early .before .before .before .u8-at .ensures i;
-      exercise = early .before .before .u8-at2 .ensures i;
-      timestamp = early .before .u32-at .ensures i;
-      site = early .u16-at .ensures i;
+      version = early .before .before .u8-at .ensures i;
+      exercise = early .before .u8-at2 .ensures i;
+      timestamp = early .u32-at .ensures i;
+      status = late .before .read-status .ensures i;
+      site = late .u16-at .ensures i;
       application = c .before .before .u16-at2 .ensures i;
       entity = c .before .u16-at3 .ensures i;
       radio = c .u16-at4 .ensures i;
@@ -48,6 +53,7 @@ read-header-spec =
     u8-at-requires
     u8-at-requires-2
     u32-at-requires
+    read-status-requires
     u16-at-requires
     u16-at-requires-2
     u16-at-requires-3

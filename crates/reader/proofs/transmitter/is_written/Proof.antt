@@ -62,11 +62,10 @@ returns-2 c =
     sym (not-written (form (d₁ past)) (d₁ past) (λ e. broken (d₁ past) wrong (sym (form-next (form (d₁ past)) (d₁ past) (laid past)) ∙ e)))
 
 is-blank-requires : tie.Need-is-blank-requires
-is-blank-requires c κs =
-    let past = c .before .before .before in
-    omega (arith, transmitter-laid (d₁ past) (laid past))
+is-blank-requires c κs = laid (c .before .before .before)
 
 returns-3 : tie.Need-returns-3
+unfolding transmitterOf
 returns-3 c =
     let tested = c .before .before in
     let past = tested .before .before in

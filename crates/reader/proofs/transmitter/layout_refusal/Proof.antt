@@ -12,7 +12,7 @@ use native.Mathlib.Omega.{arith}
 use Rattle.wire.specs.Bytes.{num}
 use Rattle.wire.proofs.RuleLaws.{differs, agrees}
 use Rattle.pdu.specs.Numbers
-use Rattle.pdu.specs.Reading.{wrongLength, wrongFixed, transmitterLayout}
+use Rattle.pdu.specs.Reading.{wrongLength, wrongFixed, wrongRecords, transmitterLayout}
 use Rattle.pdu.proofs.ReadLaws.{right-length}
 use borrow.Author.Needs.{needs}
 use Rattle.reader.proofs.transmitter.layout_refusal.Statement.{statement}
@@ -31,6 +31,9 @@ d₃ c = d₂ (c .before .before)
 abbrev d₄ : tie.Else4 → List ℕ
 d₄ c = d₃ (c .before .before)
 
+abbrev d₅ : tie.Else5 → List ℕ
+d₅ c = d₄ (c .before .before)
+
 -- what each test has shown
 length-right : (c : tie.Else1) → wrongLength Numbers.transmitterLeast (d₁ c) ≡ false
 length-right c = sym (c .before .wrong-length .ensures) ∙ c .if1 .left
@@ -46,6 +49,20 @@ modulation-right c = agrees _ _ (sym (c .before .u8-at .ensures) ∙ c .if3 .lef
 
 pattern-right : (c : tie.Else4) → not (eqb (num 2 70 (d₄ c)) Numbers.patternLength) ≡ false
 pattern-right c = agrees _ _ (sym (c .before .u16-at .ensures) ∙ c .if4 .left)
+
+records-right : (c : tie.Else5) → wrongRecords (d₅ c) ≡ false
+records-right c = sym (c .before .wrong-records .ensures) ∙ c .if5 .left
+
+-- what the first four have shown, together
+four : (c : tie.Else4)
+    → (wrongLength Numbers.transmitterLeast (d₄ c) ≡ false)
+    × (wrongFixed (d₄ c) ≡ false)
+    × (not (eqb (num 1 100 (d₄ c)) Numbers.modulationLength) ≡ false)
+    × (not (eqb (num 2 70 (d₄ c)) Numbers.patternLength) ≡ false)
+four c =
+    let modulation = c .before .before in
+    let fixed = modulation .before .before in
+    (length-right (fixed .before .before), fixed-right fixed, modulation-right modulation, pattern-right c)
 
 wrong-length-requires : tie.Need-wrong-length-requires
 wrong-length-requires c κs = search needs
@@ -89,33 +106,31 @@ returns-4 c =
       differs _ _ (λ e. c .if4 .taken (c .before .u16-at .ensures ∙ e)),
     )
 
+wrong-records-requires : tie.Need-wrong-records-requires
+wrong-records-requires c κs =
+    let modulation = c .before .before in
+    let fixed = modulation .before .before in
+    long (fixed .before .before)
+
 returns-5 : tie.Need-returns-5
 unfolding transmitterLayout
 returns-5 c =
-    let past = c .before in
-    let modulation = past .before .before in
-    let fixed = modulation .before .before in
-    rw (
-      length-right (fixed .before .before),
-      fixed-right fixed,
-      modulation-right modulation,
-      pattern-right past,
-      differs _ _ (c .if5 .taken),
-    )
+    let (length, fixed, modulation, pattern) = four (c .before .before) in
+    rw (length, fixed, modulation, pattern, sym (c .before .wrong-records .ensures) ∙ c .if5 .taken)
 
 returns-6 : tie.Need-returns-6
 unfolding transmitterLayout
 returns-6 c =
     let past = c .before in
-    let modulation = past .before .before in
-    let fixed = modulation .before .before in
-    rw (
-      length-right (fixed .before .before),
-      fixed-right fixed,
-      modulation-right modulation,
-      pattern-right past,
-      agrees _ _ (c .if5 .left),
-    )
+    let (length, fixed, modulation, pattern) = four (past .before .before) in
+    rw (length, fixed, modulation, pattern, records-right past, differs _ _ (c .if6 .taken))
+
+returns-7 : tie.Need-returns-7
+unfolding transmitterLayout
+returns-7 c =
+    let past = c .before in
+    let (length, fixed, modulation, pattern) = four (past .before .before) in
+    rw (length, fixed, modulation, pattern, records-right past, agrees _ _ (c .if6 .left))
 
 pub layout-refusal-spec : {M : Type 1} → statement M
 layout-refusal-spec =
@@ -129,5 +144,7 @@ layout-refusal-spec =
     returns-3
     u16-at-requires
     returns-4
+    wrong-records-requires
     returns-5
-    returns-6)
+    returns-6
+    returns-7)
