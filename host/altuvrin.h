@@ -1,12 +1,21 @@
 /*
- * Altuvrin: what the proved readers answer to a datagram, live or of an old capture, and to a
- * trunk record.
+ * Altuvrin: what the proved readers answer to the first PDU of a datagram, live or of an old
+ * capture, and to a trunk record.
  *
  *     uint64_t answer = altuvrin_datagram(bytes, length);
  *     if (altuvrin_number(answer) == ALTUVRIN_TAKEN)
  *         forward(bytes, altuvrin_size(answer));
  *     else
  *         log_refusal(altuvrin_number(answer), altuvrin_reason(altuvrin_number(answer)));
+ *
+ * A datagram may hold several PDUs, one behind the other; each answer tells where the next begins:
+ *
+ *     for (size_t at = 0; at < length; at += altuvrin_size(answer)) {
+ *         answer = altuvrin_datagram(bytes + at, length - at);
+ *         if (altuvrin_number(answer) != ALTUVRIN_TAKEN)
+ *             break;
+ *         forward(bytes + at, altuvrin_size(answer));
+ *     }
  *
  * Link with target/staticlib/libhost.a (x86-64, made by `make archive`); no further library is
  * needed. docs/PROTOCOL.md has the layouts and the rules.
@@ -22,15 +31,17 @@ extern "C" {
 #endif
 
 /*
- * The answer numbers of reading, and 52, which is one of writing. The first that applies is given,
- * in this order:
+ * The answer numbers of reading, and two more that the calls below do not give: 52, which is one of
+ * writing, and 51, which is one of an offer at a near end. The first that applies is given, in this
+ * order:
  *     Transmitter  1 2 3 4 5 6 7 64 8 9
  *     Signal       1 2 3 4 10 11 12 8 131 132 133 134 135 136 137 138 50 14 15
  *     record       20 21 25 22
  * altuvrin_archive never gives 50, and has the same order without it.
  */
 enum altuvrin_answer {
-    /* A Link 16 Transmitter or Signal PDU, or a trunk record; the size is that of the whole. */
+    /* A Link 16 Transmitter or Signal PDU, the first of a datagram, or a trunk record; the size is
+     * how many bytes the PDU used, or that of the whole record. */
     ALTUVRIN_TAKEN = 0,
     /* Fewer than 12 bytes. */
     ALTUVRIN_SHORT = 1,
@@ -41,8 +52,8 @@ enum altuvrin_answer {
     ALTUVRIN_STATUS = 52,
     /* The PDU type is neither 25 (Transmitter) nor 26 (Signal), or the family is not 4. */
     ALTUVRIN_TYPE = 3,
-    /* The length field is not the datagram's length, or less than the fixed part:
-     * 104 bytes of a Transmitter, 32 of a Signal. */
+    /* The length field is above the datagram's length, or less than the fixed part: 104 bytes of a
+     * Transmitter, 32 of a Signal. Bytes behind the PDU are no matter of it. */
     ALTUVRIN_LENGTH = 4,
     /* Category is not 21, input source not 8, major modulation not 7, detail not 0, or system
      * not 8. */
@@ -54,8 +65,8 @@ enum altuvrin_answer {
     /* A Transmitter of version 7 has variable parameter records: their number, in bytes 30 and 31,
      * is not 0. In versions 5 and 6 these bytes are padding. */
     ALTUVRIN_PARAMETER_RECORDS = 64,
-    /* A Transmitter is not 112 bytes, or a Signal is not 32 bytes and its data bytes, filled to a
-     * multiple of 4. */
+    /* By its length field a Transmitter is not 112 bytes, or a Signal is not 32 bytes and its data
+     * bytes, filled to a multiple of 4. */
     ALTUVRIN_PDU_SIZE = 8,
     /* TSA level not 0 to 4, primary mode not 1 or 2, secondary mode not 0 to 3, synchronization
      * state not 2 or 3, or a synchronization ID other than zero at levels 0 to 2. */
@@ -94,15 +105,18 @@ enum altuvrin_answer {
     ALTUVRIN_RECORD_KIND = 20,
     /* A record is empty, or not the length of its kind. */
     ALTUVRIN_RECORD_LENGTH = 21,
-    /* The bytes after a record's number are not a PDU of its kind, as the writer gives it: a
-     * Signal of message type 0 with 0 to 12 words, a Transmitter (kind 16), or a Signal of message
-     * type 1 (kind 17) or 2 (kind 18); its padding zero, in types 1 and 2 also that inside the
-     * body, the upper 13 of its 48 bits. Byte 10 of the PDU is padding in versions 5 and 6, and in
-     * version 7 the status, which may be any; byte 11 is padding in all. Types 3 to 7 have no
-     * kind. */
+    /* The bytes after a record's number are not one PDU of its kind, as the writer gives it, with
+     * nothing behind it: a Signal of message type 0 with 0 to 12 words, a Transmitter (kind 16), or
+     * a Signal of message type 1 (kind 17) or 2 (kind 18); its padding zero, in types 1 and 2 also
+     * that inside the body, the upper 13 of its 48 bits. Byte 10 of the PDU is padding in versions
+     * 5 and 6, and in version 7 the status, which may be any; byte 11 is padding in all. Types 3 to
+     * 7 have no kind. */
     ALTUVRIN_RECORD_PDU = 22,
     /* A record with a PDU has the number 4,294,967,295; a reply may have it. */
-    ALTUVRIN_RECORD_NUMBER = 25
+    ALTUVRIN_RECORD_NUMBER = 25,
+    /* In an offer: the datagram holds more than eight PDUs. A near end answers it; the calls below
+     * read one PDU or one record, and do not give it. */
+    ALTUVRIN_BUNDLE = 51
 };
 
 /*
@@ -115,22 +129,24 @@ enum altuvrin_answer {
  */
 
 /*
- * Reads `length` bytes as one PDU, whole: where it is taken, the size is `length`. The answer is
- * taken apart by altuvrin_number and altuvrin_size.
+ * Reads the first PDU of `length` bytes. The answer is of the first PDU, and how many bytes it used,
+ * at most `length`; what stands behind it, other PDUs or anything else, is not looked at and changes
+ * nothing. It is taken apart by altuvrin_number and altuvrin_size.
  */
 uint64_t altuvrin_datagram(const uint8_t *bytes, size_t length);
 
 /*
- * Reads a datagram of an old capture: takes voice (message types 3, 4 and 5) too, with a body of up
- * to 256 bytes, as altuvrin_datagram did until voice was retired. On every datagram that
- * altuvrin_datagram does not refuse with 50 its answer is the same. What it takes as voice is not
- * for the line: no record carries it.
+ * Reads a datagram of an old capture; the answer is of the first PDU, and how many bytes it used.
+ * Takes voice (message types 3, 4 and 5) too, with a body of up to 256 bytes, as altuvrin_datagram
+ * did until voice was retired. On every datagram that altuvrin_datagram does not refuse with 50 its
+ * answer is the same. What it takes as voice is not for the line: no record carries it.
  */
 uint64_t altuvrin_archive(const uint8_t *bytes, size_t length);
 
 /*
- * Reads `length` bytes as one trunk record, whole: a kind, a number, and the PDU that the kind
- * names. The answer is as for altuvrin_datagram.
+ * Reads `length` bytes as one trunk record, whole: a kind, a number, and the one PDU that the kind
+ * names. Where it is taken, the size is `length`. The answer is packed as that of
+ * altuvrin_datagram.
  */
 uint64_t altuvrin_record(const uint8_t *bytes, size_t length);
 
@@ -140,7 +156,8 @@ static inline uint32_t altuvrin_number(uint64_t answer)
     return (uint32_t)(answer >> 32);
 }
 
-/* The size of what was taken, in bytes; 0 where it was refused. */
+/* The size of what was taken, in bytes: of the first PDU, or of the record; 0 where it was
+ * refused. */
 static inline uint32_t altuvrin_size(uint64_t answer)
 {
     return (uint32_t)(answer & UINT32_MAX);
@@ -180,6 +197,7 @@ static inline const char *altuvrin_reason(uint32_t number)
     case ALTUVRIN_RECORD_LENGTH: return "length of the record";
     case ALTUVRIN_RECORD_PDU: return "carried bytes";
     case ALTUVRIN_RECORD_NUMBER: return "number of the record";
+    case ALTUVRIN_BUNDLE: return "more than eight PDUs";
     default: return "unknown number";
     }
 }

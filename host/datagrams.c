@@ -24,6 +24,12 @@ void resize(struct datagram *datagram, size_t length)
     put(datagram, LENGTH, (uint32_t)length);
 }
 
+void append(struct datagram *datagram, const struct datagram *other)
+{
+    memcpy(datagram->bytes + datagram->length, other->bytes, other->length);
+    datagram->length += other->length;
+}
+
 /* A field and the value that a valid PDU has there. */
 struct setting {
     struct field field;

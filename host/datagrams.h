@@ -115,7 +115,8 @@ enum {
     DATAGRAM_ROOM = 70000
 };
 
-/* Large enough for a datagram whose length does not fit the length field. */
+/* Bytes, of one PDU or of several, one behind the other. Large enough for a datagram whose length
+ * does not fit the length field. */
 struct datagram {
     size_t length;
     uint8_t bytes[DATAGRAM_ROOM];
@@ -129,6 +130,9 @@ void put(struct datagram *datagram, struct field field, uint32_t value);
 
 /* Cuts the datagram, or lengthens it by zeros; the length field follows where it can. */
 void resize(struct datagram *datagram, size_t length);
+
+/* Puts another datagram behind this one; there is room for both. */
+void append(struct datagram *datagram, const struct datagram *other);
 
 /* A valid Transmitter of version 6 and TSA level 3. */
 void make_transmitter(struct datagram *datagram);

@@ -1,5 +1,5 @@
 /* An example host: hands a few datagrams and records, and a datagram of an old capture, to Altuvrin
- * and prints each answer. */
+ * and prints each answer; a datagram of several PDUs it walks from one to the next. */
 #include "altuvrin.h"
 #include "datagrams.h"
 #include "records.h"
@@ -78,6 +78,38 @@ static void show_signals(void)
     show("11 bytes", &datagram);
 }
 
+/* Walks a bundle: each answer tells how many bytes its PDU used, and there the next one begins. The
+ * first that is refused ends the walk. */
+static void walk(const char *what, const struct datagram *bundle)
+{
+    uint32_t number = ALTUVRIN_TAKEN;
+    size_t at = 0;
+
+    printf("%s, %zu bytes\n", what, bundle->length);
+    while (number == ALTUVRIN_TAKEN && at < bundle->length) {
+        uint64_t answer = altuvrin_datagram(bundle->bytes + at, bundle->length - at);
+        char place[32];
+        snprintf(place, sizeof place, "  at byte %zu", at);
+        print(place, answer);
+        number = altuvrin_number(answer);
+        at += altuvrin_size(answer);
+    }
+}
+
+static void show_bundle(void)
+{
+    static struct datagram bundle;
+
+    make_transmitter(&bundle);
+    make_words(&datagram, 1);
+    append(&bundle, &datagram);
+    make_timing(&datagram, RTT_REPLY);
+    append(&bundle, &datagram);
+    walk("Bundle of three PDUs", &bundle);
+    bundle.length -= 1;
+    walk("The same, cut by a byte", &bundle);
+}
+
 static void show_records(void)
 {
     make_record(&datagram, WORDS_MAX, 5);
@@ -103,6 +135,7 @@ int main(void)
 {
     show_transmitters();
     show_signals();
+    show_bundle();
     show_records();
     return 0;
 }

@@ -34,6 +34,7 @@ pub enum Refusal {
     RecordLength = 21,
     CarriedBytes = 22,
     NotCarried = 23,
+    BundleSize = 51,
     WindowFull = 24,
     LastNumber = 25,
     NotHeld = 26,

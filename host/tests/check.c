@@ -99,16 +99,23 @@ static void compare(struct call call, const uint8_t *bytes, size_t length, uint3
     current_failed = true;
 }
 
-static void compare_whole(struct call call, const struct datagram *datagram, uint32_t number)
+/* Where it is taken, so many bytes are used. */
+static void compare_used(struct call call, const struct datagram *datagram, size_t used,
+                         uint32_t number)
 {
-    uint32_t size = number == ALTUVRIN_TAKEN ? (uint32_t)datagram->length : 0;
+    uint32_t size = number == ALTUVRIN_TAKEN ? (uint32_t)used : 0;
     compare(call, datagram->bytes, datagram->length, number, size);
+}
+
+void sample_first(const struct datagram *datagram, size_t used, uint32_t live, uint32_t archive)
+{
+    compare_used(DATAGRAM, datagram, used, live);
+    compare_used(ARCHIVE, datagram, used, archive);
 }
 
 void sample_readings(const struct datagram *datagram, uint32_t live, uint32_t archive)
 {
-    compare_whole(DATAGRAM, datagram, live);
-    compare_whole(ARCHIVE, datagram, archive);
+    sample_first(datagram, datagram->length, live, archive);
 }
 
 void sample(const struct datagram *datagram, uint32_t number)
@@ -118,7 +125,7 @@ void sample(const struct datagram *datagram, uint32_t number)
 
 void sample_record(const struct datagram *record, uint32_t number)
 {
-    compare_whole(RECORD, record, number);
+    compare_used(RECORD, record, record->length, number);
 }
 
 void check(const char *what, const struct datagram *datagram, uint32_t number)

@@ -24,6 +24,9 @@ void sample(const struct datagram *datagram, uint32_t number);
 /* A sample to which live reading and archive reading answer each its own number. */
 void sample_readings(const struct datagram *datagram, uint32_t live, uint32_t archive);
 
+/* The same of a datagram that may hold more than its first PDU, which uses so many bytes. */
+void sample_first(const struct datagram *datagram, size_t used, uint32_t live, uint32_t archive);
+
 /* A check of one sample. */
 void check(const char *what, const struct datagram *datagram, uint32_t number);
 void check_readings(const char *what, const struct datagram *datagram, uint32_t live,

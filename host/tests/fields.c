@@ -1,5 +1,5 @@
-/* Each rule of document 01 and of document 02, R-3, R-4 and R-9, on a field's value, by itself, and
- * the fields that have no rule. */
+/* Each rule of document 01 and of document 02, R-3, R-4, R-5 and R-9, on a field's value, by itself,
+ * and the fields that have no rule. */
 #include "../altuvrin.h"
 #include "check.h"
 #include "tests.h"
@@ -46,6 +46,22 @@ static void check_value(const char *what, struct field field, uint32_t value, ui
     check_range(what, field, value, value, number);
 }
 
+/* One check: of all length fields of a PDU that stands alone, its own length is taken. Those below
+ * the fixed part and those above the slice's length are 4, those between are 8. */
+static void check_length_fields(const char *what, uint32_t fixed)
+{
+    check_begin(what);
+    for (uint32_t length = 0; length < 65536; length++) {
+        bool lies_in = fixed <= length && length <= datagram.length;
+        put(&datagram, LENGTH, length);
+        sample(&datagram, length == datagram.length ? ALTUVRIN_TAKEN
+                          : lies_in                 ? ALTUVRIN_PDU_SIZE
+                                                    : ALTUVRIN_LENGTH);
+    }
+    check_end();
+    put(&datagram, LENGTH, (uint32_t)datagram.length);
+}
+
 /* TSEC and MSEC. */
 static void check_security_setting(const char *what, struct field field, uint32_t number)
 {
@@ -74,7 +90,7 @@ static void test_transmitter_rules(void)
     check_range("Transmitter: version", VERSION, FIRST_VERSION, LAST_VERSION, ALTUVRIN_VERSION);
     check_types("Transmitter: type");
     check_value("Transmitter: family", FAMILY, RADIO_FAMILY, ALTUVRIN_TYPE);
-    check_value("Transmitter: length field", LENGTH, TRANSMITTER_SIZE, ALTUVRIN_LENGTH);
+    check_length_fields("Transmitter: length field", 104);
     check_value("category", CATEGORY, LINK_16_CATEGORY, ALTUVRIN_RADIO);
     check_value("input source", INPUT_SOURCE, LINK_16_INPUT_SOURCE, ALTUVRIN_RADIO);
     check_value("major", MAJOR, LINK_16_MAJOR, ALTUVRIN_RADIO);
@@ -120,7 +136,7 @@ static void test_signal_rules(void)
     check_range("Signal: version", VERSION, FIRST_VERSION, LAST_VERSION, ALTUVRIN_VERSION);
     check_types("Signal: type");
     check_value("Signal: family", FAMILY, RADIO_FAMILY, ALTUVRIN_TYPE);
-    check_value("Signal: length field", LENGTH, 60, ALTUVRIN_LENGTH);
+    check_length_fields("Signal: length field", 32);
     check_range("encoding", ENCODING, FIRST_ENCODING, LAST_ENCODING, ALTUVRIN_ENCODING);
     check_value("TDL type", TDL_TYPE, LINK_16_TDL_TYPE, ALTUVRIN_TDL_TYPE);
     check_range("NPG", NPG, 0, LAST_NPG, ALTUVRIN_NPG);

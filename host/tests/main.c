@@ -12,6 +12,7 @@ int main(void)
     test_timing();
     test_voice();
     test_versions();
+    test_bundles();
     test_measuring();
     test_stack();
     return check_report();

@@ -1,6 +1,6 @@
 /*
  * The order of refusals: of the rules that a datagram or a record breaks, the first in the order
- * gives the number (document 01, "The numbers" and "Sizes and edges"; document 02, R-3, R-4 and
+ * gives the number (document 01, "The numbers" and "Sizes and edges"; document 02, R-3, R-4, R-5 and
  * R-9). Rules are broken from the last to the first, because the later ones speak of what lies
  * deeper in the bytes.
  */
@@ -9,9 +9,13 @@
 #include "check.h"
 #include "tests.h"
 
+#include <stdbool.h>
 #include <stdio.h>
 
 static struct datagram datagram;
+
+/* Whether another PDU stands behind the one whose rules are broken. */
+static bool more_behind;
 
 static void make_signal_of_1_word(void)
 {
@@ -39,9 +43,12 @@ static void cut_to_11_bytes(void)
     datagram.length = START_SIZE - 1;
 }
 
+/* Above the slice's length; where more stands behind, below the fixed part. */
 static void break_length(void)
 {
-    put(&datagram, LENGTH, get(&datagram, LENGTH) + 1);
+    bool transmitter = get(&datagram, PDU_TYPE) == TRANSMITTER_TYPE;
+    uint32_t fixed = transmitter ? TRANSMITTER_FIXED_SIZE : SIGNAL_FIXED_SIZE;
+    put(&datagram, LENGTH, more_behind ? fixed - 1 : get(&datagram, LENGTH) + 1);
 }
 
 static void break_data_length(void)
@@ -134,6 +141,27 @@ static void check_order(const struct kind *kind)
     }
 }
 
+static void check_with_more(const char *what, const struct datagram *first, uint32_t number)
+{
+    static struct datagram bundle;
+    static struct datagram behind;
+    bundle = *first;
+    make_transmitter(&behind);
+    append(&bundle, &behind);
+    check(what, &bundle, number);
+}
+
+/* The same rules and their order where another PDU stands behind. No bundle breaks 1 there, which is
+ * the first. */
+static void check_order_with_more(const struct kind *kind)
+{
+    const struct kind with_more = {"More behind what", check_with_more, kind->make,
+                                   kind->breakers + 1, kind->count - 1};
+    more_behind = true;
+    check_order(&with_more);
+    more_behind = false;
+}
+
 static void test_transmitter_order(void)
 {
     const struct breaker breakers[] = {
@@ -169,6 +197,7 @@ static void test_version_7_order(void)
     const struct kind kind = {"Transmitter of version 7", check, make_version_7_transmitter,
                               breakers, COUNT(breakers)};
     check_order(&kind);
+    check_order_with_more(&kind);
 }
 
 static void test_signal_order(void)
@@ -199,6 +228,8 @@ static void test_signal_order(void)
                                COUNT(breakers) - 2};
     check_order(&kind);
     check_order(&voice);
+    check_order_with_more(&kind);
+    check_order_with_more(&voice);
     make_voice_of_257_bytes();
     check_readings("Voice that breaks 15", &datagram, ALTUVRIN_RETIRED, ALTUVRIN_BODY_LIMIT);
 }

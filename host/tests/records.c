@@ -1,5 +1,5 @@
-/* Trunk records: document 01, "The trunk" and the numbers 20, 21, 22 and 25; document 02, R-1, R-4
- * and R-9. */
+/* Trunk records: document 01, "The trunk" and the numbers 20, 21, 22 and 25; document 02, R-1, R-4,
+ * R-5 and R-9. */
 #include "../records.h"
 #include "../altuvrin.h"
 #include "check.h"
@@ -233,6 +233,41 @@ static void check_other_kinds(const struct kind *kind)
     check_end();
 }
 
+/* One check: a shorter PDU in a record of this kind, with zeros behind it, or with PDUs as far as the
+ * record goes. The reader takes it; the record carries more than one PDU. */
+static void check_more_behind(const struct kind *kind)
+{
+    size_t room = kind->length - RECORD_HEAD_SIZE;
+    check_begin(name("more than its PDU", kind->kind));
+    for (size_t i = 0; i < PDU_KINDS; i++) {
+        size_t size = KINDS[i].length - RECORD_HEAD_SIZE;
+        if (size >= room)
+            continue;
+        make_record(&record, KINDS[i].kind, 0);
+        put(&record, RECORD_KIND, kind->kind);
+        record.length = kind->length;
+        uint8_t *pdu = record.bytes + RECORD_HEAD_SIZE;
+        memset(pdu + size, 0, room - size);
+        sample_record(&record, ALTUVRIN_RECORD_PDU);
+        for (size_t at = size; at < room; at++)
+            pdu[at] = pdu[at - size];
+        sample_record(&record, ALTUVRIN_RECORD_PDU);
+    }
+    check_end();
+}
+
+/* One check: a Transmitter and a Signal of 1 word have the size of a Signal of 12 words. */
+static void check_bundle_carried(void)
+{
+    static struct datagram bundle;
+    static struct datagram signal;
+    make_transmitter(&bundle);
+    make_words(&signal, 1);
+    append(&bundle, &signal);
+    make_record_of(&record, WORDS_MAX, 0, &bundle);
+    check_record_bytes("a bundle in a record", record.bytes, 185, ALTUVRIN_RECORD_PDU, 0);
+}
+
 /* One check: a value that the reader refuses in each of these fields. */
 static void check_damaged(uint32_t kind, const struct field *fields, size_t count)
 {
@@ -285,6 +320,9 @@ void test_records(void)
         check_types(&KINDS[i]);
     for (size_t i = 0; i < COUNT(KINDS); i++)
         check_other_kinds(&KINDS[i]);
+    for (size_t i = 0; i < PDU_KINDS; i++)
+        check_more_behind(&KINDS[i]);
+    check_bundle_carried();
     test_damaged();
     check_kept(TRANSMITTER_KIND, 32, 69);
     check_kept(WORDS_MAX, 44, 177);

@@ -1,5 +1,5 @@
-/* Lengths: document 01, "Signal" and the numbers 1, 4, 8, 12, 14 and 15; document 02, R-1 and
- * R-4. */
+/* Lengths: document 01, "Signal" and the numbers 1, 4, 8, 12, 14 and 15; document 02, R-1, R-4 and
+ * R-5. */
 #include "../altuvrin.h"
 #include "check.h"
 #include "tests.h"
@@ -32,13 +32,11 @@ static void check_cut(const char *what)
     datagram.length = whole;
 }
 
-/* The length field is right for the first bytes, but has no room for the whole length. */
+/* The length field is right for the PDU, and has no room for the whole length. */
 static void check_past_16_bits(const char *what)
 {
-    size_t whole = datagram.length;
-    datagram.length = whole + 65536;
-    check(what, &datagram, ALTUVRIN_LENGTH);
-    datagram.length = whole;
+    check_bytes(what, datagram.bytes, datagram.length + 65536, ALTUVRIN_TAKEN,
+                (uint32_t)datagram.length);
 }
 
 static void test_lengths(void)

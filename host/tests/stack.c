@@ -13,8 +13,8 @@
 #include <string.h>
 
 /*
- * The numbers that both readings can give, of which live reading has one more, and those that the check
- * of a record can give.
+ * The numbers that both readings can give, of which live reading has one more, and those that the
+ * check of a record can give. No call gives 51 or 52.
  */
 #define BOTH_READINGS \
     ALTUVRIN_TAKEN, \
@@ -180,6 +180,20 @@ static void try_pdus(void)
     try_forms(&datagram);
 }
 
+/* Datagrams of two PDUs: the second follows the first, whose length field may go past its end. */
+static void try_bundles(void)
+{
+    static struct datagram bundle;
+    make_transmitter(&bundle);
+    make_words(&datagram, WORDS_MAX);
+    append(&bundle, &datagram);
+    try_forms(&bundle);
+    make_timing(&bundle, RTT);
+    make_transmitter(&datagram);
+    append(&bundle, &datagram);
+    try_forms(&bundle);
+}
+
 /* Records of every kind, and of kinds that are none; with a status too, in version 7. */
 static void try_records(void)
 {
@@ -263,6 +277,7 @@ void test_stack(void)
     try_all(NULL, 0);
     try_slots();
     try_pdus();
+    try_bundles();
     try_records();
     try_random(1, 100000);
     printf("stack: to come to a call and back took %zu bytes\n", small_stack_overhead());

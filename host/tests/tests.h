@@ -26,6 +26,9 @@ void test_voice(void);
 /* Protocol versions 5, 6 and 7: the status, and the count of parameter records. */
 void test_versions(void);
 
+/* Datagrams of several PDUs: what stands behind the first, and the walk from one to the next. */
+void test_bundles(void);
+
 /* The small stack that the next one uses, by calls whose use of it is known. */
 void test_measuring(void);
 

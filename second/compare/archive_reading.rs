@@ -6,6 +6,7 @@ use super::datagrams::{self, DATAGRAM, SIGNAL, TIMING, TRANSMITTER};
 use crate::archive;
 use crate::check::{Claim, Report};
 use crate::hex;
+use crate::pdu::layout;
 use crate::pdu::read::{self, Answer};
 
 /// What archive reading answers where live reading answers 50.
@@ -57,7 +58,8 @@ impl ArchiveReading {
         let live = archive::datagram(datagram);
         let archived = archive::archive_reading(datagram);
         let is_retired = live.number == 50;
-        let is_taken = archived.number == 0 && archived.size as usize == datagram.len();
+        let length = layout::LENGTH.get(datagram);
+        let is_taken = archived.number == 0 && Some(u64::from(archived.size)) == length;
         let is_too_long = archived.number == 15 && archived.size == 0;
         let holds = if is_retired {
             is_taken || is_too_long

@@ -216,6 +216,7 @@ pub fn run(program: &Path, seed: u64, count: u64) -> Result<ExitCode, String> {
     let mut generator = CodecLines::new(seed);
     let mut extremes = Extremes::default();
     let mut versions = Versions::default();
+    let mut behind = Behind::default();
     let mut comparison = Comparison {
         program,
         tally: Tally::new(ANSWERS),
@@ -233,6 +234,7 @@ pub fn run(program: &Path, seed: u64, count: u64) -> Result<ExitCode, String> {
         for line in &lines {
             extremes.add(line);
             versions.add(line);
+            behind.add(line);
         }
         let input: String = lines.iter().map(|line| format!("{line}\n")).collect();
         comparison.compare(&input)?;
@@ -249,6 +251,7 @@ pub fn run(program: &Path, seed: u64, count: u64) -> Result<ExitCode, String> {
     report.count(&comparison.all_agree());
     extremes.report(least, &mut report);
     versions.report(least, &mut report);
+    behind.report(least, &mut report);
     Ok(report.finish())
 }
 
@@ -291,6 +294,41 @@ impl Versions {
     fn report(&self, least: u64, report: &mut Report) {
         self.read.report("read", least, report);
         self.written.report("written", least, report);
+    }
+}
+
+/// How many datagrams were read that have bytes behind their first PDU, by each reading; the bytes are
+/// not shown.
+#[derive(Default)]
+struct Behind {
+    read: u64,
+    archived: u64,
+}
+
+impl Behind {
+    fn add(&mut self, line: &Line) {
+        let is_longer = |datagram: &[u8], answer: Result<Pdu, Refusal>| {
+            answer.is_ok_and(|pdu| pdu.size() < datagram.len())
+        };
+        match line {
+            Line::Read(datagram) => self.read += u64::from(is_longer(datagram, read(datagram))),
+            Line::Archive(datagram) => {
+                let archived = is_longer(datagram, read_archive(datagram));
+                self.archived += u64::from(archived);
+            }
+            _ => {}
+        }
+    }
+
+    fn report(&self, least: u64, report: &mut Report) {
+        let (read, archived) = (self.read, self.archived);
+        let mut claim = Claim::new(format!(
+            "first PDUs with bytes behind them: {read} read, {archived} read by archive reading"
+        ));
+        claim.sample(read.min(archived) >= least, || {
+            format!("not {least} of each")
+        });
+        report.count_own(&claim);
     }
 }
 

@@ -1,9 +1,10 @@
 //! Compares the archive's answers to datagrams with those of the second program's own reader, live and
-//! of old captures.
+//! of old captures: of each datagram its first PDU is read.
 
 use super::answers::{self, Comparison, Subject};
 use super::archive_reading::{ArchiveReading, ARCHIVE_READING};
 use super::self_check::SelfChecks;
+use super::tails::DatagramTails;
 use super::versions::DatagramVersions;
 use crate::archive;
 use crate::check::Report;
@@ -72,6 +73,7 @@ pub fn run(seed: u64, count: u64) -> ExitCode {
     let mut self_checks = SelfChecks::new();
     let mut archive_reading = ArchiveReading::new();
     let mut versions = DatagramVersions::new();
+    let mut tails = DatagramTails::new();
     let mut comparisons =
         [&DATAGRAMS, &ARCHIVE_READING].map(|subject| Comparison::new(subject, seed));
     let mut report = Report::default();
@@ -83,6 +85,7 @@ pub fn run(seed: u64, count: u64) -> ExitCode {
         |datagram| {
             archive_reading.datagram(datagram);
             versions.datagram(datagram);
+            tails.datagram(datagram);
             self_checks.datagram(datagram);
         },
     );
@@ -92,6 +95,7 @@ pub fn run(seed: u64, count: u64) -> ExitCode {
     }
     archive_reading.report(least, &mut report);
     versions.report(least, &mut report);
+    tails.report(least, &mut report);
     self_checks.finish(&mut generator, &mut report);
     report.finish()
 }

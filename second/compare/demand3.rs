@@ -1,5 +1,6 @@
-//! Holds an output of the replay program to the sentences of document 01, "What demand 3 means".
-//! It knows the reader, the station's rules and the form of a record, and not what the ends do.
+//! Holds an output of the replay program to the sentences of document 01, "What demand 3 means", with
+//! document 02, R-5: accepted are the PDUs inside bundles, one by one. It knows the reader, the
+//! station's rules and the form of a record, and not what the ends do.
 
 use crate::numbers;
 use crate::pdu::layout;
@@ -71,7 +72,7 @@ fn holds(holds: bool, sentence: &str) -> Result<(), Fault> {
 /// The list of calls as far as it was gone through.
 #[derive(Debug, PartialEq, Eq)]
 pub struct History {
-    /// The PDUs of the offers not refused, as the writer gives them.
+    /// The PDUs in the bundles of the offers not refused, one by one, as the writer gives them.
     accepted: Vec<Vec<u8>>,
     put_out: u32,
     acknowledged: u32,
@@ -183,12 +184,21 @@ impl History {
         Ok(())
     }
 
-    fn offered(&mut self, datagram: &[u8], number: u32) -> Result<(), Fault> {
+    /// A bundle is taken whole, and its first PDU has the number that is answered.
+    fn offered(&mut self, bundle: &[u8], number: u32) -> Result<(), Fault> {
         holds(number == self.accepted(), "the number of a PDU accepted")?;
-        holds(read(datagram).is_ok(), "what is accepted is a PDU")?;
-        self.accepted.push(layout::written_form(datagram));
-        // An offer writes its record into the store.
-        self.written.extend(self.record(number));
+        holds(!bundle.is_empty(), "what is accepted is PDUs")?;
+        let mut rest = bundle;
+        while !rest.is_empty() {
+            holds(read(rest).is_ok(), "what is accepted is PDUs")?;
+            self.accepted.push(layout::written_form(rest));
+            rest = &rest[layout::first_pdu(rest).len()..];
+        }
+        // An offer writes its records into the store.
+        let records: Vec<Vec<u8>> = (number..self.accepted())
+            .filter_map(|number| self.record(number))
+            .collect();
+        self.written.extend(records);
         Ok(())
     }
 

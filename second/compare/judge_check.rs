@@ -73,6 +73,67 @@ fn timing_script() -> Vec<u8> {
     going_on(b"", &lines)
 }
 
+/// A bundle of three PDUs is accepted; one more, by itself; the second record comes first, then all four
+/// in order, and the last reply.
+fn bundle_script() -> Vec<u8> {
+    let pdus = [
+        (Kind::Transmitter, transmitter(1, FINE_MODULATION)),
+        (Kind::Signal(1), signal(1, NET, &[Word::initial(0, 0)])),
+        (Kind::Rtt, signal_of(1, NET, 1, &[0; 6])),
+        (Kind::Signal(0), signal(1, NET, &[])),
+    ];
+    let [first, second, third, last] = pdus.each_ref().map(|(_, pdu)| &pdu[..]);
+    let bundle = [first, second, third].concat();
+    let send = Line::Send {
+        number: 2,
+        room: 185,
+    };
+    let mut lines = vec![
+        station(0, None),
+        Line::Offer(bundle.clone()),
+        Line::Offer([&bundle[..], &[0]].concat()),
+        Line::Offer(last.to_vec()),
+        send,
+    ];
+    let arrivals = (0..).zip(&pdus);
+    let mut arrivals: Vec<Line> = arrivals
+        .map(|(number, (kind, pdu))| arrival(*kind, number, pdu))
+        .collect();
+    lines.push(arrivals[1].clone());
+    lines.append(&mut arrivals);
+    lines.push(Line::Near(record::head(Kind::Reply, 4).to_vec()));
+    going_on(b"", &lines)
+}
+
+/// Places of the lines printed for it.
+const BUNDLE: usize = 1;
+const BUNDLE_REFUSED: usize = 2;
+const AFTER_BUNDLE: usize = 3;
+const THIRD_SENT: usize = 4;
+const SECOND_EARLY: usize = 5;
+const FIRST_PUT_OUT: usize = 6;
+const SECOND_PUT_OUT: usize = 7;
+const LAST_REPLY: usize = 10;
+const BUNDLE_COUNTS: usize = 11;
+
+/// Of the refused bundle nothing may be accepted. Were the bundle one PDU, the next would be number 1.
+const BUNDLE_SLIPS: [Slip; 8] = [
+    (BUNDLE, "offer 0", "offer 2", NUMBER),
+    (BUNDLE_REFUSED, "offer refused 1", "offer 3", BUNDLED),
+    (AFTER_BUNDLE, "offer 3", "offer 1", NUMBER),
+    (THIRD_SENT, " 1100000002", " 1100000001", RECORD),
+    (SECOND_EARLY, "2000000000", "2000000001", REPLIES),
+    (SECOND_PUT_OUT, " 42 ", " 35 ", ANSWER),
+    (LAST_REPLY, "near 4", "near 2", ACKNOWLEDGED),
+    (BUNDLE_COUNTS, "counts 4 4 4", "counts 2 4 4", END),
+];
+
+const BUNDLE_OTHER_LINES: [OtherLine; 3] = [
+    (FIRST_PUT_OUT, "far repeat 2000000000", PUT_OUT),
+    (SECOND_PUT_OUT, "far early 2000000001", PUT_OUT),
+    (LAST_REPLY, "near refused 27", NEXT),
+];
+
 /// Places of the lines printed for it.
 const FIRST_COUNTED: usize = 6;
 const LAST_COUNTED: usize = 8;
@@ -104,6 +165,7 @@ const LIMIT: usize = 13;
 
 /// The sentences that slips break.
 const NUMBER: &str = "the number of a PDU accepted";
+const BUNDLED: &str = "what is accepted is PDUs";
 const RECORD: &str = "the record sent";
 const ORDER: &str = "put out are the first accepted, in order";
 const ANSWER: &str = "the station's answer";
@@ -161,15 +223,23 @@ pub fn run(report: &mut Report) {
     let mut claim = Claim::new("the judge of demand 3 finds each slip");
     find_slips(&longer, &SLIPS, &OTHER_LINES, &mut claim);
     report.count_own(&claim);
-    report.count_own(&follows_timing());
+    report.count_own(&follows("timing", &timing_script(), &TIMING_SLIPS, &[]));
+    report.count_own(&follows(
+        "bundles",
+        &bundle_script(),
+        &BUNDLE_SLIPS,
+        &BUNDLE_OTHER_LINES,
+    ));
 }
 
-fn follows_timing() -> Claim {
-    let mut claim = Claim::new("the judge of demand 3 follows timing, and finds each slip");
-    let script = timing_script();
-    let judged = demand3::judge(&script, &replay::run(&script));
+/// The judge takes what is printed for the script, and finds each slip in it.
+fn follows(what: &str, script: &[u8], slips: &[Slip], others: &[OtherLine]) -> Claim {
+    let mut claim = Claim::new(format!(
+        "the judge of demand 3 follows {what}, and finds each slip"
+    ));
+    let judged = demand3::judge(script, &replay::run(script));
     claim.sample(judged.is_ok(), || format!("{judged:?}"));
-    find_slips(&script, &TIMING_SLIPS, &[], &mut claim);
+    find_slips(script, slips, others, &mut claim);
     claim
 }
 

@@ -2,6 +2,7 @@
 //! "Sizes and edges" and "Wrong by one rule", and each sentence of the rules that a slip could turn
 //! round. The numbers are the documents' own.
 
+use super::bundle_cases;
 use super::self_check::MARK;
 use super::timing_cases;
 use super::version_cases;
@@ -44,7 +45,7 @@ pub fn run(report: &mut Report) {
         ("the last number", last_number),
     ];
     let later = timing_cases::CASES.into_iter().chain(voice_cases::CASES);
-    let later = later.chain(version_cases::CASES);
+    let later = later.chain(version_cases::CASES).chain(bundle_cases::CASES);
     for (what, case) in cases.into_iter().chain(later) {
         let mut trial = Trial::new(what);
         case(&mut trial);

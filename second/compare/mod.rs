@@ -4,6 +4,8 @@
 mod absences;
 mod answers;
 pub mod archive_reading;
+mod bundle_cases;
+mod bundles;
 pub mod codec;
 pub mod datagrams;
 mod demand3;
@@ -19,6 +21,8 @@ pub mod records;
 pub mod replay;
 mod self_check;
 mod shrink;
+mod tail_check;
+mod tails;
 mod tally;
 mod timing_cases;
 mod version_cases;

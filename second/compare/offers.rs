@@ -1,7 +1,8 @@
-//! What offers of Signals of message types 1 to 7 gave, which the printed lines alone do not tell:
-//! types 1 and 2 are carried and have a body size of their own, types 3 to 5 are retired, types 6 and
-//! 7 are not carried. And the versions of what is taken and put out.
+//! What offers of Signals of message types 1 to 7 gave, alone and in bundles, which the printed lines
+//! alone do not tell: types 1 and 2 are carried and have a body size of their own, types 3 to 5 are
+//! retired, types 6 and 7 are not carried. And the versions of what is taken and put out.
 
+use super::bundles::Walk;
 use super::tally::{Name, Tally};
 use super::versions::VersionCounts;
 use crate::check::Report;
@@ -37,13 +38,25 @@ impl Offers {
     pub fn add(&mut self, script: &[u8], output: &str) {
         let (lines, _) = script::parse(script);
         for (line, printed) in lines.iter().zip(output.lines()) {
-            if let Some(name) = name(line, printed) {
-                self.message_types.count(&name, false);
-            }
             match (line, Outcome::parse(printed)) {
-                (Line::Offer(datagram), Some(Outcome::Offered(_))) => self.taken.count(datagram),
+                (Line::Offer(datagram), Some(outcome)) => self.offered(datagram, &outcome),
                 (_, Some(Outcome::Delivered { pdu, .. })) => self.put_out.count(&pdu),
                 _ => {}
+            }
+        }
+    }
+
+    /// Counts the PDUs that are taken, or the one that stops the bundle.
+    fn offered(&mut self, datagram: &[u8], outcome: &Outcome) {
+        let walk = Walk::of(datagram);
+        let taken = matches!(outcome, Outcome::Offered(_));
+        let decided = if taken { walk.pdus } else { vec![walk.rest] };
+        for pdu in decided {
+            if let Some(name) = name(pdu, outcome) {
+                self.message_types.count(&name, false);
+            }
+            if taken {
+                self.taken.count(pdu);
             }
         }
     }
@@ -58,14 +71,11 @@ impl Offers {
     }
 }
 
-/// The row of an offer; none where another rule decided, or the type is 0.
-fn name(line: &Line, printed: &str) -> Option<Name> {
-    let Line::Offer(datagram) = line else {
-        return None;
-    };
-    let message_type = layout::MESSAGE_TYPE.get(datagram)?;
-    let is_signal = layout::PDU_TYPE.get(datagram) == Some(u64::from(SIGNAL_TYPE));
-    let answer = match Outcome::parse(printed)? {
+/// The row of a PDU that was offered; none where another rule decided, or the type is 0.
+fn name(pdu: &[u8], outcome: &Outcome) -> Option<Name> {
+    let message_type = layout::MESSAGE_TYPE.get(pdu)?;
+    let is_signal = layout::PDU_TYPE.get(pdu) == Some(u64::from(SIGNAL_TYPE));
+    let answer = match outcome {
         Outcome::Offered(_) => "taken".to_string(),
         Outcome::Refused(_, number @ (14 | 23 | 50)) => number.to_string(),
         _ => return None,

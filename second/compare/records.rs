@@ -2,6 +2,7 @@
 
 use super::answers::{self, Comparison, Subject};
 use super::self_check::MARK;
+use super::tails::RecordTails;
 use super::versions::RecordVersions;
 use crate::archive;
 use crate::check::{Claim, Report};
@@ -67,6 +68,7 @@ pub fn run(seed: u64, count: u64) -> ExitCode {
     let mut generator = RecordGenerator::new(seed);
     let mut written_again = Claim::new("a record that is taken is written as it was read");
     let mut versions = RecordVersions::new();
+    let mut tails = RecordTails::new();
     let mut comparison = Comparison::new(&RECORDS, seed);
     let mut report = Report::default();
     answers::run(
@@ -76,12 +78,14 @@ pub fn run(seed: u64, count: u64) -> ExitCode {
         || generator.record(),
         |bytes| {
             versions.record(bytes);
+            tails.record(bytes);
             check_written_again(bytes, &mut written_again);
         },
     );
     let least = answers::least(count);
     comparison.report(least, &mut report);
     versions.report(least, &mut report);
+    tails.report(least, &mut report);
     report.count_own(&written_again);
     report.count_own(&sizes());
     report.finish()

@@ -1,6 +1,7 @@
 //! Compares the replay program with the second program's own ends, and holds it to demand 3.
 
 use super::absences::Absences;
+use super::bundles::Bundles;
 use super::demand3::{self, Fault};
 use super::judge_check;
 use super::known_cases;
@@ -42,8 +43,8 @@ pub const REPLAY: Format = Format {
             "offer",
             &[
                 "28", "1", "2", "3", "4", "5", "6", "7", "64", "8", "9", "10", "11", "12", "131",
-                "132", "133", "134", "135", "136", "137", "138", "50", "14", "15", "23", "24",
-                "taken",
+                "132", "133", "134", "135", "136", "137", "138", "50", "14", "15", "23", "51",
+                "24", "taken",
             ],
         ),
         ("send", &["28", "26", "20", "29", "16", "written"]),
@@ -251,6 +252,7 @@ pub fn run(program: &Path, seed: u64, count: u64) -> Result<ExitCode, String> {
     }
     let mut extents = Extents::default();
     let mut offers = Offers::new();
+    let mut bundles = Bundles::new();
     let mut absences = Absences::new();
     while extents.all.calls < count {
         let script = scripts::script(seeds.next());
@@ -258,6 +260,7 @@ pub fn run(program: &Path, seed: u64, count: u64) -> Result<ExitCode, String> {
         let printed = replay::run(&script);
         extents.add(&script, &printed);
         offers.add(&script, &printed);
+        bundles.add(&script);
         absences.add(&script);
         let Extent { scripts, calls } = extents.all;
         if scripts % PROGRESS_STEP == 0 {
@@ -268,6 +271,7 @@ pub fn run(program: &Path, seed: u64, count: u64) -> Result<ExitCode, String> {
     let least = OFTEN.in_a_run_of(count);
     comparison.report(least, &mut report);
     offers.report(least, &mut report);
+    bundles.report(least, &mut report);
     absences.report(least, &mut report);
     extents.report(&mut report);
     known_cases::run(&mut report);

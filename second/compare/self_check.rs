@@ -1,5 +1,6 @@
 //! Checks of the second program on itself: its reader, its writer and the written form agree.
 
+use super::tail_check::TailChecks;
 use super::version_check::VersionChecks;
 use super::voice_check::VoiceChecks;
 use super::writer_check;
@@ -16,8 +17,8 @@ use crate::pdu::{self, Header, Modulation, NetworkHeader, Pdu, Signal, Transmitt
 pub const MARK: u8 = 0xA5;
 const SPARE: usize = 8;
 
-/// Claims about every datagram that is taken, and about both readings and all versions of every
-/// datagram.
+/// Claims about the first PDU of every datagram that is taken, and about both readings and all versions
+/// of every datagram.
 pub struct SelfChecks {
     /// So many bodies had padding inside that was not zero.
     padded_bodies: u64,
@@ -28,6 +29,7 @@ pub struct SelfChecks {
     short_output: Claim,
     voice: VoiceChecks,
     versions: VersionChecks,
+    tails: TailChecks,
 }
 
 impl SelfChecks {
@@ -41,6 +43,7 @@ impl SelfChecks {
             short_output: Claim::new("an output too short is refused and left alone"),
             voice: VoiceChecks::new(),
             versions: VersionChecks::new(),
+            tails: TailChecks::new(),
         }
     }
 
@@ -48,6 +51,7 @@ impl SelfChecks {
     pub fn datagram(&mut self, datagram: &[u8]) {
         self.voice.datagram(datagram);
         self.versions.datagram(datagram);
+        self.tails.datagram(datagram);
         let Ok(pdu) = read(datagram) else {
             return;
         };
@@ -106,6 +110,7 @@ impl SelfChecks {
         }
         self.voice.finish(report);
         self.versions.finish(report);
+        self.tails.finish(report);
         writer_check::run(generator, report);
     }
 }

@@ -33,8 +33,8 @@ impl CodecLines {
         }
     }
 
-    /// A datagram of any sort, by both readings; one that archive reading takes is written from what
-    /// was read, which is refused where it is voice.
+    /// A datagram of any sort, by both readings; where archive reading takes its first PDU, that is
+    /// written from what was read, which is refused where it is voice.
     fn read_and_write(&mut self) -> Vec<Line> {
         let mut datagram = self.datagrams.datagram();
         datagram.truncate(BYTES_MAX);
@@ -43,8 +43,8 @@ impl CodecLines {
                 let room = self.room(TRANSMITTER_SIZE);
                 Some(Line::WriteTransmitter(record, room))
             }
-            Ok(Pdu::Signal(record, body)) => {
-                let room = self.room(datagram.len());
+            Ok(pdu @ Pdu::Signal(record, body)) => {
+                let room = self.room(pdu.size());
                 Some(Line::WriteSignal(record, body.to_vec(), room))
             }
             Err(_) => None,

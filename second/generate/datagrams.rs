@@ -1,6 +1,8 @@
-//! Datagrams for the comparison: valid ones, voice, damaged ones and noise, chosen so that every answer
-//! of the reader occurs often, and most often close to where a rule changes its mind.
+//! Datagrams for the comparison: valid ones, voice, damaged ones and noise, alone or with bytes behind
+//! them, chosen so that every answer of the reader occurs often, and most often close to where a rule
+//! changes its mind.
 
+use super::tails;
 use crate::pdu;
 use crate::pdu::layout::{self, Field};
 use crate::random::Random;
@@ -124,6 +126,9 @@ fn signal_fields() -> Vec<Ruled> {
 /// The longest body that a data length of 16 bits can tell.
 const BODY_TOLD_MAX: u64 = u16::MAX as u64 / 8 - pdu::NETWORK_HEADER_SIZE as u64;
 
+/// Behind the first PDU of a datagram there are at most so many others.
+const OTHERS_MAX: u64 = 9;
+
 pub struct Generator {
     random: Random,
     start: Vec<Ruled>,
@@ -141,8 +146,32 @@ impl Generator {
         }
     }
 
-    /// A datagram of any sort.
+    /// A datagram of any sort; in every third something stands behind what it begins with.
     pub fn datagram(&mut self) -> Vec<u8> {
+        let mut bytes = self.beginning();
+        if self.random.one_in(3) {
+            bytes.extend(self.behind());
+        }
+        bytes
+    }
+
+    /// PDUs, or a tail that is none, or both.
+    fn behind(&mut self) -> Vec<u8> {
+        let pdus = match self.random.below(8) {
+            0..=2 => 0,
+            3..=5 => 1,
+            _ => self.random.within(2, OTHERS_MAX),
+        };
+        let mut bytes: Vec<u8> = (0..pdus).flat_map(|_| self.archived()).collect();
+        if pdus == 0 || self.random.one_in(3) {
+            let pdu = self.archived();
+            bytes.extend(tails::tail(&mut self.random, &pdu));
+        }
+        bytes
+    }
+
+    /// What is read as a first PDU.
+    fn beginning(&mut self) -> Vec<u8> {
         match self.random.below(16) {
             0..=2 => self.archived(),
             3..=8 => self.damaged(),

@@ -7,4 +7,5 @@ pub mod line_cases;
 pub mod records;
 pub mod scripts;
 pub mod streams;
+mod tails;
 mod traffic;

@@ -90,7 +90,7 @@ impl RecordGenerator {
     }
 
     pub fn damage(&mut self, bytes: &mut Vec<u8>) {
-        let choice = self.random.below(14);
+        let choice = self.random.below(15);
         if bytes.len() < HEAD_SIZE || choice < 2 {
             return self.resize(bytes);
         }
@@ -102,6 +102,7 @@ impl RecordGenerator {
             6 => self.put_other_signal(&mut bytes[HEAD_SIZE..]),
             7 | 8 => self.flip_bit(bytes),
             9 | 10 => self.put_by_version(&mut bytes[HEAD_SIZE..]),
+            11 => self.put_shorter(&mut bytes[HEAD_SIZE..]),
             _ => self.datagrams.damage(&mut bytes[HEAD_SIZE..]),
         }
     }
@@ -110,6 +111,26 @@ impl RecordGenerator {
     fn put_other_signal(&mut self, pdu: &mut [u8]) {
         if let Some(signal) = self.datagrams.signal_of_size(pdu.len()) {
             pdu.copy_from_slice(&layout::written_form(&signal));
+        }
+    }
+
+    /// Puts a shorter PDU in the place of the PDU, if there is one: behind it stands the old one's end, a
+    /// PDU, or zeros.
+    fn put_shorter(&mut self, pdu: &mut [u8]) {
+        let kind = self.random.pick(&self.kinds);
+        if kind == Kind::Reply || kind.size() >= HEAD_SIZE + pdu.len() {
+            return;
+        }
+        let shorter = layout::written_form(&self.pdu(kind));
+        let (start, behind) = pdu.split_at_mut(shorter.len());
+        start.copy_from_slice(&shorter);
+        match self.random.below(3) {
+            0 => {}
+            1 => behind.fill(0),
+            _ => {
+                let count = behind.len().min(shorter.len());
+                behind[..count].copy_from_slice(&shorter[..count]);
+            }
         }
     }
 

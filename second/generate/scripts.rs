@@ -5,7 +5,7 @@ use super::records::RecordGenerator;
 use super::traffic::Traffic;
 use crate::pdu::{LAST_NET, LAST_TSA_LEVEL, WORDS_MAX};
 use crate::random::Random;
-use crate::trunk::near::{self, STORE_SIZE};
+use crate::trunk::near::{self, ROWS, STORE_SIZE};
 use crate::trunk::record::{self, Kind, ACCEPTED_MAX, HEAD_SIZE, PDU_SIZE_MAX, REPLY_SIZE};
 use crate::trunk::replay::Replay;
 use crate::trunk::script::{Line, Outcome, Settings, BYTES_MAX};
@@ -22,6 +22,8 @@ const UNFAIR_SHARE: u64 = 3;
 const POKED_SHARE: u64 = 3;
 /// Of every so many calls of a poked script one is a poke.
 const POKE_SHARE: u64 = 16;
+/// Of every so many offers one is of a bundle, for which the free rows are counted.
+const BUNDLE_SHARE: u64 = 2;
 /// Bytes next to the known kinds, and the last.
 const UNKNOWN_KINDS: [u8; 6] = [13, 15, 19, 31, 33, 255];
 /// One lacks the end of its last line.
@@ -160,7 +162,12 @@ impl Draft {
     }
 
     fn offer(&mut self) -> Line {
-        let mut datagram = self.traffic.datagram();
+        let free = ROWS as usize - self.replay.near.held().len();
+        let mut datagram = if self.random.one_in(BUNDLE_SHARE) {
+            self.traffic.bundle(free)
+        } else {
+            self.traffic.datagram()
+        };
         datagram.truncate(BYTES_MAX);
         Line::Offer(datagram)
     }

@@ -1,7 +1,8 @@
 //! The traffic of a few units, as a station hears it: chosen so that each of the station's answers
-//! occurs often.
+//! occurs often. Its PDUs come alone, and several in a datagram.
 
 use super::datagrams::Generator;
+use super::tails;
 use crate::pdu::{self, layout, RTT, RTT_REPLY, WORDS_MAX};
 use crate::random::Random;
 use crate::trunk::station::{COARSE_ENTRY_LEVEL, NETWORK_TIME, NO_ID, PLACES, PPLI_LABEL};
@@ -16,6 +17,11 @@ const TIMING_SHARE: u64 = 3;
 
 /// Of every so many Transmitters one has any number in bytes 30 and 31, which version 7 refuses.
 const RECORDS_SHARE: u64 = 32;
+
+/// A bundle has at most so many PDUs, two more than a near end takes at once; a long one, which is rare,
+/// at most so many.
+const BUNDLE_MAX: u64 = 10;
+const LONG_BUNDLE_MAX: u64 = 20;
 
 pub struct Traffic {
     random: Random,
@@ -57,6 +63,45 @@ impl Traffic {
             0 | 1 => self.datagrams.datagram(),
             2 => self.datagrams.signal_or_voice(),
             _ => self.pdu(),
+        }
+    }
+
+    /// A bundle for a near end with so many free rows: one to ten PDUs of the units, rarely more. In some
+    /// one of them is damaged, or is another datagram, and behind some stands a tail that is no PDU.
+    pub fn bundle(&mut self, free: usize) -> Vec<u8> {
+        let count = self.bundle_count(free as u64);
+        let mut pdus: Vec<Vec<u8>> = (0..count).map(|_| self.pdu()).collect();
+        match self.random.below(8) {
+            0 | 1 => {
+                let at = self.random.below(count) as usize;
+                self.spoil(&mut pdus[at]);
+            }
+            2 => {
+                let pdu = self.pdu();
+                pdus.push(tails::tail(&mut self.random, &pdu));
+            }
+            _ => {}
+        }
+        pdus.concat()
+    }
+
+    /// Often as many as fit, or one more; and any number.
+    fn bundle_count(&mut self, free: u64) -> u64 {
+        match self.random.below(8) {
+            0..=3 => self.random.within(1, free.max(1)),
+            4 => free.max(1),
+            5 => free + 1,
+            6 if self.random.one_in(8) => self.random.within(BUNDLE_MAX + 1, LONG_BUNDLE_MAX),
+            _ => self.random.within(1, BUNDLE_MAX),
+        }
+    }
+
+    /// Damages a PDU, or puts something in its place that is most often not carried.
+    fn spoil(&mut self, pdu: &mut Vec<u8>) {
+        match self.random.below(4) {
+            0 => *pdu = self.datagrams.datagram(),
+            1 => *pdu = self.datagrams.signal_or_voice(),
+            _ => self.datagrams.damage(pdu),
         }
     }
 

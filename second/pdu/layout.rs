@@ -1,6 +1,7 @@
 //! Places by byte number (document 01, "Bytes 0 to 19, both PDUs", "Transmitter, 112 bytes" and
-//! "Signal"; document 02, R-1 and R-9): the fields that have a rule, the padding, and the written form
-//! that comes of it. The reader and the writer do not use them, so that each is a check on the other.
+//! "Signal"; document 02, R-1, R-5 and R-9): the fields that have a rule, the padding, and the written
+//! form that comes of it. The reader and the writer do not use them, so that each is a check on the
+//! other.
 
 use super::{RTT, RTT_REPLY, SIGNAL_FIXED_SIZE, TRANSMITTER_TYPE};
 use std::ops::Range;
@@ -88,9 +89,15 @@ const TRANSMITTER_PADDING: [&[Field]; 2] = [
 const SIGNAL_PADDING: [&[Field]; 2] =
     [&[field(10, 2), field(38, 2)], &[field(11, 1), field(38, 2)]];
 
-/// A taken datagram as the writer gives it: padding, the fill included, as zero.
+/// The bytes of a taken datagram's first PDU, by its length field.
+pub fn first_pdu(datagram: &[u8]) -> &[u8] {
+    let length = LENGTH.get(datagram);
+    &datagram[..length.expect("a taken datagram has its fields") as usize]
+}
+
+/// The first PDU of a taken datagram as the writer gives it: padding, the fill included, as zero.
 pub fn written_form(datagram: &[u8]) -> Vec<u8> {
-    let mut form = datagram.to_vec();
+    let mut form = first_pdu(datagram).to_vec();
     let by_version = usize::from(has_status(datagram));
     if PDU_TYPE.get(datagram) == Some(u64::from(TRANSMITTER_TYPE)) {
         clear(&mut form, TRANSMITTER_PADDING[by_version]);

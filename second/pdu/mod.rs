@@ -1,6 +1,6 @@
 //! Link 16 PDUs as document 01 has them, with round-trip timing by document 02, R-1, voice retired by
-//! R-4, and version 7 by R-9: their records, the numbers of its rules, and the rules that reading and
-//! writing share (inlined by force as the reader is, see `read`).
+//! R-4, several PDUs in one datagram by R-5, and version 7 by R-9: their records, the numbers of its
+//! rules, and the rules that reading and writing share (inlined by force as the reader is, see `read`).
 
 pub mod layout;
 pub mod read;

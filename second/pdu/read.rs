@@ -1,5 +1,5 @@
-//! The reader, from document 01, with document 02, R-1, R-4 and R-9. Fields are taken in the order of
-//! their bytes, refusals are given in the order of "The numbers".
+//! The reader, from document 01, with document 02, R-1, R-4, R-5 and R-9. Fields are taken in the order
+//! of their bytes, refusals are given in the order of "The numbers".
 //!
 //! Its functions are inlined by force: where the answer alone is asked for, no record is built,
 //! and the bench holds the archive against that.
@@ -7,7 +7,8 @@
 use super::*;
 use crate::bytes::Source;
 
-/// What a host learns of a datagram or a record: 0 and its size, or the refusal's number and 0.
+/// What a host learns: 0 and the size of a datagram's first PDU, or of a record; or the refusal's number
+/// and 0.
 #[derive(Clone, Copy, Debug, PartialEq, Eq)]
 pub struct Answer {
     pub number: u32,
@@ -57,13 +58,14 @@ struct Start {
     status: u8,
 }
 
-/// Reads a datagram that is exactly one PDU.
+/// Reads the first PDU of a datagram, which may hold more: the PDU's size tells how many bytes it used,
+/// and those behind them are not looked at (document 02, R-5).
 #[inline(always)]
 pub fn read(datagram: &[u8]) -> Result<Pdu<'_>, Refusal> {
     read_by(Rules::Live, datagram)
 }
 
-/// Reads a datagram of an old capture, voice included.
+/// The same of a datagram of an old capture, voice included.
 pub fn read_archive(datagram: &[u8]) -> Result<Pdu<'_>, Refusal> {
     read_by(Rules::Archive, datagram)
 }
@@ -98,11 +100,18 @@ fn read_start(datagram: &[u8]) -> Result<Start, Refusal> {
     })
 }
 
-/// Refusal 4: the PDU is the whole datagram and has its fixed part; that part, and the rest.
+/// Refusal 4: the PDU is as long as its length field says, lies in the datagram and has its fixed part;
+/// that part, and the rest of the PDU.
 #[inline(always)]
 fn fixed_part<const N: usize>(length: u16, datagram: &[u8]) -> Result<(&[u8; N], &[u8]), Refusal> {
-    require(usize::from(length) == datagram.len(), Refusal::Length)?;
-    datagram.split_first_chunk().ok_or(Refusal::Length)
+    let pdu = datagram.get(..usize::from(length)).ok_or(Refusal::Length)?;
+    pdu.split_first_chunk().ok_or(Refusal::Length)
+}
+
+/// What refusal 8 measures: the length field, whatever stands behind the PDU.
+#[inline(always)]
+fn size(start: &Start) -> usize {
+    start.length.into()
 }
 
 /// The header; the source stands at its beginning, and after it at the PDU's own fields.
@@ -127,7 +136,7 @@ fn read_transmitter(start: &Start, datagram: &[u8]) -> Result<Transmitter, Refus
     let (fixed, parameters) = fixed_part::<TRANSMITTER_FIXED_SIZE>(start.length, datagram)?;
     let (mut transmitter, designation) = read_fixed_part(start, fixed);
     check_designation(start.version, &designation)?;
-    require(datagram.len() == TRANSMITTER_SIZE, Refusal::PduSize)?;
+    require(size(start) == TRANSMITTER_SIZE, Refusal::PduSize)?;
     transmitter.modulation = read_modulation(parameters);
     check_modulation(&transmitter.modulation)?;
     Ok(transmitter)
@@ -217,7 +226,7 @@ fn read_signal<'a>(rules: Rules, start: &Start, datagram: &'a [u8]) -> Result<Pd
     require(source.u16() == TDL_TYPE, Refusal::TdlType)?;
     let sample_rate = source.u32();
     let data_bytes = data_bytes(source.u16())?;
-    require(datagram.len() == signal_size(data_bytes), Refusal::PduSize)?;
+    require(size(start) == signal_size(data_bytes), Refusal::PduSize)?;
     let (network, body) = rest[..data_bytes].split_at(NETWORK_HEADER_SIZE);
     let signal = Signal {
         header,

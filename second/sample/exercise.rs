@@ -1,5 +1,5 @@
-//! A sample exercise as a script for the replay program: a few units' traffic, offered at the near
-//! end and repeated over a line that loses and repeats records, until all is acknowledged. The far
+//! A sample exercise as a script for the replay program: a few units' traffic, offered in bundles at the
+//! near end and repeated over a line that loses and repeats records, until all is acknowledged. The far
 //! station is of level 4: it becomes Coarse by network time, and Fine by timing messages.
 
 use super::units;
@@ -16,8 +16,8 @@ const SEED: u64 = 7;
 /// Of every so many records on the line one is lost, and one arrives twice.
 const LOST_SHARE: u64 = 3;
 const TWICE_SHARE: u64 = 4;
-/// So many PDUs are offered in a second.
-const OFFERS: usize = 2;
+/// So many PDUs are offered in a second, in one datagram.
+const BUNDLE: usize = 2;
 
 /// The far end's station.
 const LEVEL: u8 = 4;
@@ -92,7 +92,7 @@ impl Exercise {
         self.replay.call(line)
     }
 
-    /// Second by second some PDUs are offered, as long as there are rows for them, and all that
+    /// Second by second a bundle of PDUs is offered, as long as there are rows for them, and all that
     /// are held are sent.
     fn run(&mut self, traffic: &[Vec<u8>]) {
         let mut second = 0;
@@ -101,9 +101,10 @@ impl Exercise {
             self.call(&Line::Clock(second));
             let held = self.replay.near.held();
             let room = ROWS as usize - held.len();
-            let rest = traffic.iter().skip(held.end as usize);
-            for datagram in rest.take(OFFERS.min(room)) {
-                self.call(&Line::Offer(datagram.clone()));
+            let rest = &traffic[held.end as usize..];
+            let bundle = &rest[..rest.len().min(BUNDLE).min(room)];
+            if !bundle.is_empty() {
+                self.call(&Line::Offer(bundle.concat()));
             }
             for number in self.replay.near.held() {
                 self.send(number);

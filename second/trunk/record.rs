@@ -1,5 +1,5 @@
-//! Trunk records (document 01, "The trunk"; document 02, R-1): one byte of kind, a 4-byte number,
-//! then the PDU as the writer gives it. A reply has the number alone.
+//! Trunk records (document 01, "The trunk"; document 02, R-1 and R-5): one byte of kind, a 4-byte
+//! number, then one PDU as the writer gives it. A reply has the number alone.
 
 use crate::bytes::{Sink, Source};
 use crate::numbers::{require, Refusal};
@@ -106,7 +106,7 @@ impl<'a> Record<'a> {
     }
 }
 
-/// The bytes are what the writer gives.
+/// The bytes are what the writer gives, with nothing behind it.
 fn is_written_form(pdu: &Pdu, bytes: &[u8]) -> bool {
     let mut output = [0; PDU_SIZE_MAX];
     write(pdu, &mut output).is_ok_and(|size| output[..size] == *bytes)

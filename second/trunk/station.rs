@@ -1,5 +1,5 @@
-//! The station (document 01, "The station"; document 02, R-1 and R-12): the net-entry state of one
-//! station, which hears datagrams and the clock.
+//! The station (document 01, "The station"; document 02, R-1, R-5 and R-12): the net-entry state of one
+//! station, which hears datagrams, of each its first PDU, and the clock.
 
 use super::word::Word;
 use crate::numbers::{require, Refusal};

@@ -100,7 +100,7 @@ fn body(datagram: &[u8], size: u16) -> &[u8] {
     text::part(datagram, pdu::BODY_START, end)
 }
 
-// The call's word, and `refused N` or what the datagram holds.
+// The call's word, and `refused N` or what the datagram's first PDU holds.
 fn show_reading(call: &[u8], answer: Reading, datagram: &[u8]) {
     match answer {
         Reading::Refused(number) => show::refused(call, number),
@@ -115,12 +115,12 @@ fn show_reading(call: &[u8], answer: Reading, datagram: &[u8]) {
     }
 }
 
-// Reads a datagram.
+// Reads the first PDU of a datagram; what stands behind it is not shown (02, R-5).
 pub fn read(datagram: &[u8]) {
     show_reading(b"read", reader::read(datagram), datagram);
 }
 
-// Reads a datagram of an old capture, voice included (02, R-4).
+// The same of a datagram of an old capture, voice included (02, R-4).
 pub fn archive(datagram: &[u8]) {
     show_reading(b"archive", reader::read_archive(datagram), datagram);
 }

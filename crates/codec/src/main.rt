@@ -1,4 +1,4 @@
-// Reads datagrams and writes PDUs, one a line from standard input, and prints what each call answered.
+// Reads the first PDUs of datagrams and writes PDUs, one a line from standard input, and prints what each call answered.
 mod calls;
 mod fields;
 mod script;

@@ -8,16 +8,13 @@ ghost use Rattle.host.specs.Answer.{packed};
 // The number stands above the size, which has 32 bits.
 const ABOVE: u64 = 4294967296;
 
-// The answer number and size for a datagram; a null pointer with length 0 is an empty slice.
+// The answer number and size for the first PDU of a datagram; a null pointer with length 0 is an empty slice.
 #[no_mangle]
 pub extern "C" fn altuvrin_datagram(bytes: &[u8]) -> u64
     ensures { λ r. ⌜ r ≡ packed (numberOf (reading (now (bytes .entry)))) (sizeOf (reading (now (bytes .entry)))) ⌝ }
 {
-    let n = reader::reading_refusal(bytes);
-    if n != 0 {
-        return n as u64 * ABOVE;
-    }
-    bytes.len() as u64
+    let answer = reader::answer(bytes);
+    answer.number as u64 * ABOVE + answer.size as u64
 }
 
 // The same for a datagram of an old capture, in which retired messages are taken too.
@@ -25,11 +22,8 @@ pub extern "C" fn altuvrin_datagram(bytes: &[u8]) -> u64
 pub extern "C" fn altuvrin_archive(bytes: &[u8]) -> u64
     ensures { λ r. ⌜ r ≡ packed (numberOf (archiveReading (now (bytes .entry)))) (sizeOf (archiveReading (now (bytes .entry)))) ⌝ }
 {
-    let n = reader::archive_refusal(bytes);
-    if n != 0 {
-        return n as u64 * ABOVE;
-    }
-    bytes.len() as u64
+    let answer = reader::answer_archive(bytes);
+    answer.number as u64 * ABOVE + answer.size as u64
 }
 
 // The answer number and size for a trunk record, as the lister's check gives them.

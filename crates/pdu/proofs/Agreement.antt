@@ -1,7 +1,7 @@
 -- Each test of reading and of writing says the same as document 01's plain rule in its place; so the lists of refusals and the plain rules decide
 -- alike (the verdicts). The laws of rules in order do the rest.
 -- Assumes nothing.
-use Prim.Native.Nat.{ℕ, _+_, _-_, _*_, _/_, _%_, _^_, _≤_}
+use Prim.Native.Nat.{ℕ, _+_, _-_, _*_, _%_, _^_, _≤_}
 use mathlib.Core.Path.{_≡_, refl, sym, ap, subst, _∙_}
 use mathlib.Core.Logic.{_↔_, _≢_, _⊎_, inl, inr, Iff·trans}
 use mathlib.Core.Bool.{Bool, true, false, not, true≢false, false≢true}
@@ -74,9 +74,9 @@ type-says : (d : List ℕ) (type : Type 0)
 unfolding wrongType
 type-says d type h = negated _ (both _ _ (Iff·trans (one-of _ _ (equal _ _) (equal _ _)) h) (equal _ _))
 
-pub length-says : (least : ℕ) (d : List ℕ) → (wrongLength least d ≡ false) ↔ ((num 2 8 d ≡ length d) × (least ≤ num 2 8 d))
+pub length-says : (least : ℕ) (d : List ℕ) → (wrongLength least d ≡ false) ↔ ((num 2 8 d ≤ length d) × (least ≤ num 2 8 d))
 unfolding wrongLength
-length-says least d = neither _ _ (negated _ (equal _ _)) (not-below _ _)
+length-says least d = neither _ _ (not-below _ _) (not-below _ _)
 
 fixed-says : (d : List ℕ) → (wrongFixed d ≡ false) ↔ FixedRule d
 unfolding wrongFixed

@@ -7,7 +7,6 @@ use mathlib.Core.Path.{_≡_, refl, sym, ap, subst, _∙_}
 use mathlib.Core.Logic.{_↔_, _≢_, Iff·trans}
 use mathlib.Core.Bool.{Bool, true, false}
 use mathlib.Core.List.{List, _++_}
-use lib.ListN.{length}
 use lib.Dec.{eqb}
 use borrow.Author.Tests.{eqb-true, eqb-false}
 use native.Mathlib.Omega.{arith}
@@ -78,7 +77,7 @@ by-fifty P d there elsewhere = by (isFifty (refusal d)) refl
     by true t = there (eqb-true _ _ t)
     by false t = elsewhere (eqb-false _ _ t)
 
--- what archive reading takes has its layout, and the layout's size
+-- what archive reading takes has its layout, and the size that its length field says
 pub archive-laid : (d : List ℕ) → archiveRefusal d ≡ 0 → Laid d
 archive-laid d e = by-fifty (Laid d) d (retired-laid d) (λ other. taken-laid d (sym (archive-same d other) ∙ e))
 
@@ -100,7 +99,7 @@ pub archive-number : (d : List ℕ) → numberOf (archiveReading d) ≡ archiveR
 unfolding archiveReading
 archive-number d = answer-number (archiveRefusal d) d
 
-pub archive-size : (d : List ℕ) → archiveRefusal d ≡ 0 → sizeOf (archiveReading d) ≡ length d
+pub archive-size : (d : List ℕ) → archiveRefusal d ≡ 0 → sizeOf (archiveReading d) ≡ num 2 8 d
 archive-size d e = ap sizeOf (archive-taken d e) ∙ sym (laid-size d (archive-laid d e))
 
 pub archive-no-size : (d : List ℕ) → archiveRefusal d ≢ 0 → sizeOf (archiveReading d) ≡ 0

@@ -10,3 +10,4 @@ pub mod RoundTrip
 pub mod PlaceLaws
 pub mod ReadLaws
 pub mod ArchiveLaws
+pub mod BundleLaws

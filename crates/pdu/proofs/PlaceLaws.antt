@@ -18,27 +18,28 @@ use Rattle.wire.proofs.ByteLaws.{big-num}
 use Rattle.wire.proofs.TableLaws.{both-true}
 use Rattle.wire.proofs.AppendLaws.{clear-append, sound-append}
 use Rattle.wire.proofs.ClearLaws.{joined-append, clear-pieces}
-use Rattle.pdu.specs.Tables.{fillOf, transmitterTable, signalHead, bodyTable}
+use Rattle.pdu.specs.Tables.{signalSize, fillOf, transmitterTable, signalHead, bodyTable}
 use Rattle.pdu.specs.Forms.{tableOf, bytesOf, sizeOf, bodyIn}
-use Rattle.pdu.specs.Reading.{versionSeven, transmitterOf, signalOf, bodySize, content, bodyOf, refusal}
+use Rattle.pdu.specs.Reading.{versionSeven, transmitterOf, signalOf, bodySize, bodyOf, refusal}
 use Rattle.pdu.specs.Writing.{recordRules, writingRefusal, written, outputAfter, writtenForm, paddingZero}
 use Rattle.pdu.specs.Plain.{FilledTo}
 use Rattle.pdu.specs.Fields.{SignalFields}
-use Rattle.pdu.specs.Places.{plainStatus, plainTransmitterZero, dataEnd, plainGiven, plainSignalZero, PaddingPlaces, TransmitterBytes, SignalBytes, OutputExactly}
+use Rattle.pdu.specs.Places.{plainStatus, plainTransmitterZero, dataEnd, plainGiven, plainSignalZero, PaddingPlaces}
+use Rattle.pdu.specs.Places.{TransmitterBytes, SignalBytes, OutputExactly}
 use Rattle.pdu.specs.Fits.{FitsTransmitter, FitsSignal}
 use Rattle.pdu.specs.RoundTrips.{ReadsBack}
 use Rattle.pdu.specs.declared.Transmitter.{Transmitter}
 use Rattle.pdu.specs.declared.Signal.{Signal}
 use Rattle.pdu.specs.declared.Reading.{Reading}
-use Rattle.pdu.specs.declared.Reading.the-variants.{Refused, Transmitter as aTransmitter, Signal as aSignal}
+use Rattle.pdu.specs.declared.Reading.the-variants.{Transmitter as aTransmitter, Signal as aSignal}
 use Rattle.pdu.specs.declared.Written.the-variants.{Refused as NotWritten, Size}
 use Rattle.pdu.proofs.Agreement.{content-transmitter, content-signal}
-use Rattle.pdu.proofs.Answers.{Holds, reading-taken, reads-as, taken-exactly-when}
+use Rattle.pdu.proofs.Answers.{Holds, reading-taken, reads-as, as-signal, taken-exactly-when}
 use Rattle.pdu.proofs.Taken.{signal-bounds, sound-form}
 use Rattle.pdu.proofs.VersionLaws.{status-byte, records-left, transmitter-sound}
 use Rattle.pdu.proofs.BodyLaws.{body-given, given-at, body-clear}
 use Rattle.pdu.proofs.FieldLaws.{transmitter-fields, signal-fields}
-use Rattle.pdu.proofs.ReadLaws.{read-taken, taken-laid, laid-transmitter, laid-records}
+use Rattle.pdu.proofs.ReadLaws.{read-taken, signal-laid, taken-laid, laid-transmitter, laid-records, laid-signal}
 use Rattle.pdu.proofs.RoundTrip.{written-form-back, length-form, writes-rules, bytes-form, given-same, reads-back}
 
 -- ---- padding
@@ -74,7 +75,7 @@ unfolding paddingZero transmitterOf transmitter-pieces
 transmitter-padding d b e type =
     let holds = content-transmitter d type in
     let laid = taken-laid d e in
-    let long : length d ≡ 112 = laid-transmitter d laid type in
+    let long : 112 ≤ length d = laid-transmitter d laid type .size in
     let seven : Bool = versionSeven d in
     ap (λ (r : Reading). clear 0 (tableOf r) d) holds
     ∙ clear-pieces (transmitterTable seven) 0 0 d (transmitter-sound seven) b (omega arith)
@@ -111,20 +112,21 @@ signal-padding d b e type =
     let fields = signal-fields d (signalOf d) n reads in
     let inside : 52 + n ≤ length d = omega (arith, h .size) in
     let counted : n ≡ dataEnd d - 52 = omega (arith, fields .body-size) in
-    let left : fillOf n ≡ length d - dataEnd d = omega (arith, fields .body-size, h .size) in
-    let body : clear 52 (bodyTable message n) d ≡ joined (plainGiven (num 1 37 d) (span 52 (dataEnd d) d) ∷ replicate (length d - dataEnd d) 0 ∷ []) =
+    let field : num 2 8 d ≡ signalSize n = signal-laid d (laid-signal d (taken-laid d e) other) .field in
+    let left : fillOf n ≡ num 2 8 d - dataEnd d = omega (arith, fields .body-size, field) in
+    let body : clear 52 (bodyTable message n) d ≡ joined (plainGiven (num 1 37 d) (span 52 (dataEnd d) d) ∷ replicate (num 2 8 d - dataEnd d) 0 ∷ []) =
     body-clear message n 52 d
     ∙ ap₂ (λ (l z : List ℕ). l ++ z)
     (given-at message n 52 d b inside (signal-bounds (signalOf d) n (h .rules) .timing)
     ∙ ap₂ (λ (m k : ℕ). plainGiven m (take k (drop 52 d))) (fields .network .message-type) counted)
-    (ap (λ (k : ℕ). replicate k 0) left ∙ sym (append-nil (replicate (length d - dataEnd d) 0))) in
+    (ap (λ (k : ℕ). replicate k 0) left ∙ sym (append-nil (replicate (num 2 8 d - dataEnd d) 0))) in
     ap (λ (r : Reading). clear 0 (tableOf r) d) holds
     ∙ clear-append head (bodyTable message n) 0 d
     ∙ ap₂ (λ (a z : List ℕ). a ++ z) (head-padding n d b (fits .0) (omega arith)) body
     ∙ sym
     (joined-append
     (head-pieces d (plainStatus d ∷ []) (slot-left d))
-    (plainGiven (num 1 37 d) (span 52 (dataEnd d) d) ∷ replicate (length d - dataEnd d) 0 ∷ []))
+    (plainGiven (num 1 37 d) (span 52 (dataEnd d) d) ∷ replicate (num 2 8 d - dataEnd d) 0 ∷ []))
 
 -- of every taken datagram
 pub padding-places : (d : List ℕ) → Bytes d → refusal d ≡ 0 → PaddingPlaces d
@@ -163,10 +165,10 @@ transmitter-bytes t room f e =
     let (long, (v, ((type, family), ((field, least), (fixed, (modulation, (pattern, (records, (size, sync))))))))) =
     taken-exactly-when z .transmitter-taken .0 (t, back .reads) in
     record {
-      size = size;
+      size = length-form (aTransmitter t) [];
       type = type;
       family = family;
-      length-field = field ∙ size;
+      length-field = size;
       fields = transmitter-fields z t (back .reads);
       fixed = fixed;
       modulation-length = modulation;
@@ -193,11 +195,13 @@ signal-bytes s body room f b e =
     let same : bodyOf z ≡ plainGiven message body =
     ap (λ (r : Reading). bodyIn r z) held ∙ back .same-body ∙ body-given message n body b refl (signal-bounds s n rules .timing) in
     let counted : dataEnd z ≡ 52 + n = omega (arith, fields .body-size) in
+    let laid = signal-laid z (laid-signal z (taken-laid z none) (λ q. omega arith)) in
+    let whole-field : num 2 8 z ≡ length z = laid .field ∙ ap signalSize (sym (as-signal z s n held .2)) ∙ sym (length-form (aSignal s n) body) in
     record {
-      size = subst (λ (k : ℕ). FilledTo k (length z)) counted size;
+      size = subst (λ (k : ℕ). FilledTo k (length z)) counted (subst (FilledTo (dataEnd z)) whole-field size);
       type = type;
       family = family;
-      length-field = field;
+      length-field = whole-field;
       fields = subst (SignalFields z s n) same fields;
       encoding-class = class;
       tdl-type = tdl;

@@ -24,7 +24,7 @@ use Rattle.pdu.specs.Rules.{accessRules, slotRules, networkRules, liveRu
 use Rattle.pdu.specs.Forms.{tableOf, bytesOf, sizeOf, bodyIn}
 use Rattle.pdu.specs.Tables.{signalSize}
 use Rattle.pdu.specs.Reading.{bodySize, saysTransmitter, content, bodyOf, wrongLength, startRules, transmitterLayout, signalLayout}
-use Rattle.pdu.specs.Reading.{layoutRules, formRules, Laid, readingRules, refusal, reading, archiveRules, archiveRefusal, archiveReading}
+use Rattle.pdu.specs.Reading.{layoutRules, formRules, Laid, readingRules, refusal, reading, used, archiveRules, archiveRefusal, archiveReading}
 use Rattle.pdu.specs.Plain.{RecordsRule, TimingRule, LiveRule, NoThirteen}
 use Rattle.pdu.specs.Writing.{recordRules, writingRules, writingRefusal, outputAfter, writtenForm, writtenAs, inWrittenForm}
 use Rattle.pdu.specs.declared.Signal.{Signal}
@@ -51,8 +51,9 @@ pub read-written : (d : List ℕ) (r : Reading) (out : List ℕ)
 unfolding writtenForm
 read-written d r out h e room =
     let (none, holds) = reads-as d r h e in
-    let fits : length d ≤ length out = subst (λ (n : ℕ). n ≤ length out) (sym (read-taken d r h e .size)) room in
-    let long : length (bytesOf (content d) (bodyOf d)) ≡ length d = length-form (content d) (bodyOf d) ∙ sym (taken d none .size) in
+    let size : used d ≡ sizeOf r = ap sizeOf e in
+    let fits : used d ≤ length out = subst (λ (n : ℕ). n ≤ length out) (sym size) room in
+    let long : length (bytesOf (content d) (bodyOf d)) ≡ used d = length-form (content d) (bodyOf d) ∙ ap sizeOf (sym (reading-taken d none)) in
     subst (λ (q : Reading). outputAfter q (bodyIn q d) out ≡ splice 0 (writtenForm d) out) holds
     (written-back d out none fits .output
     ∙ ap₂ (λ (l : List ℕ) (n : ℕ). l ++ drop n out) (sym (written-form-back d none)) (sym long)
@@ -112,10 +113,7 @@ timing-size s n e =
     let (npg, (net, (tsec, (msec, (type, (slot, (epoch, (last, (live, ((words, six), rest)))))))))) = inner-record s n .none .0 e in
     six
 
--- the size answered for a taken datagram is its own length, and for a refused one it is 0
-pub taken-size : (d : List ℕ) → refusal d ≡ 0 → sizeOf (reading d) ≡ length d
-taken-size d e = ap sizeOf (reading-taken d e) ∙ sym (taken d e .size)
-
+-- the size answered for a refused datagram is 0
 pub refused-size : (d : List ℕ) → refusal d ≢ 0 → sizeOf (reading d) ≡ 0
 refused-size d h = ap sizeOf (reading-refused d h)
 
@@ -142,11 +140,15 @@ start-here d e = first-here (startRules d) (formRules (content d) d) e
 pub right-length : (least : ℕ) (d : List ℕ) → wrongLength least d ≡ false → least ≤ length d
 right-length least d e = let (same, enough) = length-says least d .0 e in omega arith
 
--- a Transmitter whose layout is right has its full size
-pub transmitter-laid : (d : List ℕ) → first (transmitterLayout d) ≡ 0 → length d ≡ Numbers.transmitterSize
+-- a Transmitter whose layout is right says its full size, and lies in the slice
+pub record TransmitterLaid (d : List ℕ) : Type 0 where
+  pub field : num 2 8 d ≡ Numbers.transmitterSize
+  pub size : Numbers.transmitterSize ≤ length d
+
+pub transmitter-laid : (d : List ℕ) → first (transmitterLayout d) ≡ 0 → TransmitterLaid d
 transmitter-laid d e =
-    let (field, (fixed, (modulation, (pattern, (records, (size, end)))))) = transmitter-layout d .none .0 e in
-    size
+    let ((inside, least), (fixed, (modulation, (pattern, (records, (size, end)))))) = transmitter-layout d .none .0 e in
+    record { field = size; size = omega arith }
 
 -- and no variable parameter records in version 7
 pub records-laid : (d : List ℕ) → first (transmitterLayout d) ≡ 0 → RecordsRule d
@@ -154,15 +156,16 @@ records-laid d e =
     let (field, (fixed, (modulation, (pattern, (records, rest))))) = transmitter-layout d .none .0 e in
     records
 
--- a Signal whose layout is right counts its network header as data, and has its filled size
+-- a Signal whose layout is right counts its network header as data, says its filled size, and lies in the slice
 pub record SignalLaid (d : List ℕ) : Type 0 where
   pub header : 8 * Numbers.networkBytes ≤ num 2 28 d
-  pub size : length d ≡ signalSize (bodySize d)
+  pub field : num 2 8 d ≡ signalSize (bodySize d)
+  pub size : signalSize (bodySize d) ≤ length d
 
 pub signal-laid : (d : List ℕ) → first (signalLayout d) ≡ 0 → SignalLaid d
 signal-laid d e =
-    let (field, (class, (tdl, ((whole, enough), (size, end))))) = signal-layout d .none .0 e in
-    record { header = enough; size = omega arith }
+    let ((inside, least), (class, (tdl, ((whole, enough), (size, end))))) = signal-layout d .none .0 e in
+    record { header = enough; field = omega arith; size = omega arith }
 
 -- no rule of a layout has the number 0
 pub layout-numbered : (r : Reading) (d : List ℕ) → numbered (layoutRules r d) ≡ true
@@ -178,12 +181,19 @@ form-here r d e = first-here (layoutRules r d) (innerRules r) e
 pub form-next : (r : Reading) (d : List ℕ) → first (layoutRules r d) ≡ 0 → first (formRules r d) ≡ first (innerRules r)
 form-next r d e = first-next (layoutRules r d) (innerRules r) (layout-numbered r d) e
 
--- a broken rule of the form: not in written form; none: as its padding says
+-- a broken rule of the form: not in written form; none: as its size and its padding say
 pub not-written : (r : Reading) (d : List ℕ) → first (formRules r d) ≢ 0 → writtenAs r d ≡ false
 not-written r d e = rw (ne-eqb (first (formRules r d)) 0 e)
 
-pub written-blank : (r : Reading) (d : List ℕ) → first (formRules r d) ≡ 0 → writtenAs r d ≡ allBlank 0 (tableOf r) d
-written-blank r d e = rw (eq-eqb (first (formRules r d)) 0 e)
+pub not-alone : (r : Reading) (d : List ℕ) → length d ≢ sizeOf r → writtenAs r d ≡ false
+not-alone r d e = rw (ne-eqb (length d) (sizeOf r) e) (and-false (eqb (first (formRules r d)) 0))
+  where
+    and-false : (b : Bool) → (b && false) ≡ false
+    and-false true = refl
+    and-false false = refl
+
+pub written-blank : (r : Reading) (d : List ℕ) → first (formRules r d) ≡ 0 → length d ≡ sizeOf r → writtenAs r d ≡ allBlank 0 (tableOf r) d
+written-blank r d e alone = rw (eq-eqb (first (formRules r d)) 0 e, eq-eqb (length d) (sizeOf r) alone)
 
 -- a taken datagram has its layout
 pub taken-laid : (d : List ℕ) → refusal d ≡ 0 → Laid d
@@ -196,7 +206,7 @@ taken-laid d e =
 pub laid-long : (d : List ℕ) → Laid d → Numbers.shortest ≤ length d
 laid-long d h = start-long d (h .0)
 
-pub laid-transmitter : (d : List ℕ) → Laid d → num 1 2 d ≡ 25 → length d ≡ Numbers.transmitterSize
+pub laid-transmitter : (d : List ℕ) → Laid d → num 1 2 d ≡ 25 → TransmitterLaid d
 laid-transmitter d h type =
     transmitter-laid d (subst (λ (r : Reading). first (layoutRules r d) ≡ 0) (content-transmitter d type) (h .1))
 
@@ -207,16 +217,17 @@ laid-records d h type =
 pub laid-signal : (d : List ℕ) → Laid d → num 1 2 d ≢ 25 → first (signalLayout d) ≡ 0
 laid-signal d h type = subst (λ (r : Reading). first (layoutRules r d) ≡ 0) (content-signal d type) (h .1)
 
-pub laid-size : (d : List ℕ) → Laid d → length d ≡ sizeOf (content d)
+-- what it holds is as long as its length field says
+pub laid-size : (d : List ℕ) → Laid d → num 2 8 d ≡ sizeOf (content d)
 laid-size d h = by (saysTransmitter d) refl
   where
-    by : (b : Bool) → saysTransmitter d ≡ b → length d ≡ sizeOf (content d)
+    by : (b : Bool) → saysTransmitter d ≡ b → num 2 8 d ≡ sizeOf (content d)
     by true t =
         let type = eqb-true _ _ t in
-        laid-transmitter d h type ∙ ap sizeOf (sym (content-transmitter d type))
+        laid-transmitter d h type .field ∙ ap sizeOf (sym (content-transmitter d type))
     by false t =
         let type = eqb-false _ _ t in
-        signal-laid d (laid-signal d h type) .size ∙ ap sizeOf (sym (content-signal d type))
+        signal-laid d (laid-signal d h type) .field ∙ ap sizeOf (sym (content-signal d type))
 
 -- ---- the numbers that reading and writing do not give
 

@@ -8,14 +8,14 @@ use mathlib.Core.Path.{_≡_, refl, sym, ap, ap₂, subst, _∙_}
 use mathlib.Core.Logic.{_↔_, _⊎_}
 use mathlib.Core.Bool.{Bool, true, false}
 use mathlib.Core.List.{List, [], _∷_, _++_, append-nil}
-use lib.ListN.{length, getD, take, drop, replicate, length-drop}
-use lib.Seq.{take-all, take-at, drop-at, length-take-le}
+use lib.ListN.{length, getD, take, drop, replicate}
+use lib.Seq.{take-all, take-at, drop-at}
 use lib.Dec.{ltb}
 use borrow.Author.Tests.{eq-eqb, le-ltb, ltb-false}
 use native.Mathlib.Omega.{arith}
 use Rattle.wire.specs.Bytes.{Bytes}
 use Rattle.wire.specs.First.{first, _given-when_, numbered}
-use Rattle.wire.specs.Table.{Slot, width, read, fill, clear, allFixed, allBlank, sound, Fit}
+use Rattle.wire.specs.Table.{Slot, width, read, fill, allFixed, allBlank, sound, Fit}
 use Rattle.wire.proofs.TableLaws.{length-fill, length-clear, read-fill, fixed-fill, fill-read, clear-blank, blank-clear}
 use Rattle.wire.proofs.FirstLaws.{first-next, none-of}
 use Rattle.wire.proofs.FitLaws.{bytes-fill, bytes-take, bytes-drop, fit-read}
@@ -26,8 +26,8 @@ use Rattle.pdu.specs.Rules.{accessRules, slotRules, networkRules, liveRu
 use Rattle.pdu.specs.Tables.{fillOf, isSeven, signalHead, timingSlots, bodySlots, bodyTable}
 use Rattle.pdu.specs.Records.{transmitterValues, signalValues}
 use Rattle.pdu.specs.Forms.{tableOf, bodyValues, bodyCleared, valuesOf, bytesOf, sizeOf, bodyIn}
-use Rattle.pdu.specs.Reading.{content, bodyOf, refusal, numberOf}
-use Rattle.pdu.specs.Writing.{recordRules, writingRules, writingRefusal, writtenForm, paddingZero, inWrittenForm}
+use Rattle.pdu.specs.Reading.{content, bodyOf, refusal, used, numberOf}
+use Rattle.pdu.specs.Writing.{recordRules, writingRules, writingRefusal, writtenForm, paddingZero, onlyForm, inWrittenForm}
 use Rattle.pdu.specs.Timing.{timingAt}
 use Rattle.pdu.specs.Plain.{TimingRule}
 use Rattle.pdu.specs.RoundTrips.{WrittenBack, bodyGiven, bodyLength, ReadsBack, TimingBack, WrittenForm}
@@ -92,16 +92,17 @@ unfolding writingRules
 room-next r room e = first-next (recordRules r) _ (record-numbered r) e
 
 -- read, and written with room
-pub written-back : (d out : List ℕ) → refusal d ≡ 0 → length d ≤ length out → WrittenBack d out
+pub written-back : (d out : List ℕ) → refusal d ≡ 0 → used d ≤ length out → WrittenBack d out
 unfolding writtenForm
 written-back d out e fits =
     let h = taken d e in
     let r : Reading = content d in
-    let taken-by : writingRefusal r (length out) ≡ 0 = writes r (length out) (h .rules) (subst (λ (n : ℕ). n ≤ length out) (h .size) fits) in
+    let size : used d ≡ sizeOf r = ap sizeOf (reading-taken d e) in
+    let taken-by : writingRefusal r (length out) ≡ 0 = writes r (length out) (h .rules) (subst (λ (n : ℕ). n ≤ length out) size fits) in
     let yes = eq-eqb _ _ taken-by in
-    let long : length (bytesOf r (bodyOf d)) ≡ length d = length-form r (bodyOf d) ∙ sym (h .size) in
+    let long : length (bytesOf r (bodyOf d)) ≡ used d = length-form r (bodyOf d) ∙ sym size in
     record {
-      answer = rw yes (ap Size (sym (h .size)));
+      answer = rw yes (ap Size (sym size));
       output = rw yes (ap₂ (λ (l : List ℕ) (n : ℕ). l ++ drop n out) (written-form-back d e) long);
     }
 
@@ -119,7 +120,7 @@ unfolding bytesOf
 written-taken r body fit rules =
     let back = alone (tableOf r) (valuesOf r body) (sound-form r rules) fit in
     record {
-      size = length-form r body;
+      size = omega (arith, length-form r body);
       fixed = back .1;
       values = back .0;
       rules = rules;
@@ -321,13 +322,17 @@ written-form d b e =
 
 -- ---- what is in written form
 
--- of a taken datagram: its padding is zero exactly where it is its own written form
-padding-says : (d : List ℕ) → Bytes d → refusal d ≡ 0 → (allBlank 0 (tableOf (content d)) d ≡ true) ↔ (writtenForm d ≡ d)
+-- of a taken datagram that is one PDU: its padding is zero exactly where it is its own written form
+padding-says : (d : List ℕ)
+    → Bytes d
+    → refusal d ≡ 0
+    → length d ≡ sizeOf (content d)
+    → (allBlank 0 (tableOf (content d)) d ≡ true) ↔ (writtenForm d ≡ d)
 unfolding paddingZero
-padding-says d b e =
+padding-says d b e alone =
     let t : List Slot = tableOf (content d) in
     let h = taken d e in
-    let whole : width t ≡ length d = width-form (content d) ∙ sym (h .size) in
+    let whole : width t ≡ length d = width-form (content d) ∙ sym alone in
     let sound-table = sound-form (content d) (h .rules) in
     let all : take (width t) d ≡ d = take-all (width t) d (omega arith) in
     let back = written-form-back d e in (
@@ -335,10 +340,19 @@ padding-says d b e =
       (λ z. blank-clear t 0 d sound-table b (omega arith) (sym back ∙ z ∙ sym all)),
     )
 
+-- one that is its own written form is one PDU
+form-says : (d : List ℕ) → Bytes d → refusal d ≡ 0 → (onlyForm (content d) d ≡ true) ↔ (writtenForm d ≡ d)
+unfolding writtenForm
+form-says d b e =
+    let joined = both-then _ _ (equal (length d) (sizeOf (content d))) (padding-says d b e) in (
+      (λ z. joined .0 z .1),
+      (λ z. joined .1 (ap length (sym z) ∙ length-form (content d) (bodyOf d), z)),
+    )
+
 -- in written form: taken, and its own written form
 pub written-form-exactly : (d : List ℕ) → Bytes d → (inWrittenForm d ≡ true) ↔ ((refusal d ≡ 0) × (writtenForm d ≡ d))
 unfolding inWrittenForm
-written-form-exactly d b = both-then _ _ (equal _ _) (padding-says d b)
+written-form-exactly d b = both-then _ _ (equal _ _) (form-says d b)
 
 -- a written form is taken, and in written form
 pub written-form-holds : (d : List ℕ) → Bytes d → refusal d ≡ 0 → inWrittenForm (writtenForm d) ≡ true

@@ -3,7 +3,7 @@
 -- Assumes nothing.
 use Prim.Native.Nat.{ℕ, _+_, _-_, _/_, _%_, _^_, _≤_, _<_}
 use mathlib.Core.Path.{_≡_, refl, sym, ap, ap₂, subst, _∙_}
-use mathlib.Core.Logic.{_↔_, _≢_, _⊎_, Iff·rfl}
+use mathlib.Core.Logic.{_↔_, _≢_, Iff·rfl}
 use mathlib.Core.Bool.{Bool, true, false}
 use mathlib.Core.List.{List, [], _∷_}
 use lib.ListN.{length, getD, take, drop}
@@ -50,9 +50,9 @@ all-fixed (padding w ∷ t) o d = all-fixed t (o + w) d
 all-fixed (one w u ∷ t) o d = both _ _ (equal _ _) (all-fixed t (o + w) d)
 all-fixed (parts w ps ∷ t) o d = both _ _ Iff·rfl (all-fixed t (o + w) d)
 
--- what a taken datagram has: the size of the form's table, its fixed values, the record's values, and a record that meets its rules
+-- what a taken datagram has: at least the size of the form's table, its fixed values, the record's values, and a record that meets its rules
 pub record Taken (d : List ℕ) (r : Reading) (body : List ℕ) : Type 0 where
-  pub size : length d ≡ sizeOf r
+  pub size : sizeOf r ≤ length d
   pub fixed : allFixed 0 (tableOf r) d ≡ true
   pub values : read 0 (tableOf r) d ≡ valuesOf r body
   pub rules : first (recordRules r) ≡ 0
@@ -64,12 +64,12 @@ unfolding transmitterOf
 transmitter-holds d (long, (v, ((type, family), ((same, least), (five, (modulation, (pattern, (records, (size, (sync, end)))))))))) =
     let (category, source, major, detail, system) = five in
     record {
-      size = size;
+      size = omega arith;
       fixed =
           all-fixed (transmitterTable (versionSeven d)) 0 d .1
           (type
           also family
-          also (same ∙ size)
+          also size
           also refl
           also category
           also source
@@ -98,16 +98,16 @@ transmitter-rules d t body b h =
     let none : RecordsRule d = λ e. right-records _ _ (num-lt 2 30 d b) records (sym version-same ∙ e) in
     let (v, (no-status, (sync, end))) =
     subst (λ (u : Transmitter). Met (plainTransmitterRecord u)) (sym record-same) (transmitter-record t .none .0 (h .rules)) in
-    let long : 12 ≤ length d = omega arith in (
+    let long : 12 ≤ length d = omega (arith, h .size) in (
       (long
           also v
           also (type, family)
-          also (same ∙ sym (h .size), omega arith)
+          also (omega (arith, h .size), omega arith)
           also (category, source, major, detail, system)
           also modulation
           also pattern
           also none
-          also h .size
+          also same
           also sync
           also tt),
       record-same,
@@ -156,16 +156,16 @@ signal-holds d (long, (v, ((type, family), ((same, least), (class, (tdl, ((whole
     let message : ℕ = num 1 37 d in
     let bits : num 2 28 d ≡ dataBits n = omega arith in
     let part : num 2 20 d / 2 ^ 14 % 2 ^ 2 ≡ 1 = omega arith in
-    let full : length d ≡ signalSize n = omega arith in
+    let full : num 2 8 d ≡ signalSize n = omega arith in
     let below : num 2 20 d / 1 % 2 ^ 14 < Numbers.encodingKept = mod-lt (num 2 20 d / 1) (omega arith) in
     let small : num 2 20 d / 1 % 2 ^ 14 ≤ Numbers.encodingKept - 1 = omega arith in
     record {
-      size = full;
+      size = omega arith;
       fixed =
           all-fixed (signalTable (versionSeven d) message n) 0 d .1
           (type
           also family
-          also (same ∙ full)
+          also full
           also refl
           also both _ _ (equal _ _) Iff·rfl .1 (part, refl)
           also tdl
@@ -198,7 +198,7 @@ signal-rules d s n body b h =
       (long
           also version
           also (type, family)
-          also (same ∙ sym (h .size), omega arith)
+          also (omega (arith, h .size), omega arith)
           also class-of (num 2 20 d) bytes (both _ _ (equal _ _) Iff·rfl .0 class .0)
           also tdl
           also (omega arith, omega arith)

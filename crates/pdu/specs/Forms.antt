@@ -1,6 +1,6 @@
 -- What reading answers is also the form of a PDU: its table, its values, its bytes and its size all follow from it.
 use Prim.Native.Nat.{ℕ}
-use mathlib.Core.List.{List, [], _∷_}
+use mathlib.Core.List.{List, []}
 use lib.ListN.{length, take, drop}
 use Rattle.wire.specs.Table.{Slot, read, fill, clear}
 use Rattle.pdu.specs.Numbers

@@ -55,10 +55,10 @@ plainSignalZero d =
     ∷ (getD d 40 0 ∷ getD d 41 0 % 2 ∷ getD d 42 0 ∷ getD d 43 0 ∷ [])
     ∷ span 44 52 d
     ∷ plainGiven (num 1 37 d) (span 52 (dataEnd d) d)  -- the body
-    ∷ replicate (length d - dataEnd d) 0
+    ∷ replicate (num 2 8 d - dataEnd d) 0
     ∷ []
 
--- "padding zero" of a taken datagram: zero at these places, and the datagram at all others
+-- "padding zero" of a taken datagram: zero at these places of its first PDU, and the datagram at all others
 pub record PaddingPlaces (d : List ℕ) : Type 0 where
   pub transmitter : num 1 2 d ≡ 25 → paddingZero d ≡ joined (plainTransmitterZero d)
   pub signal : num 1 2 d ≡ 26 → paddingZero d ≡ joined (plainSignalZero d)

@@ -37,9 +37,9 @@ plainStart type d =
     ∷ (3 unless (type × (num 1 3 d ≡ 4)))
     ∷ []
 
--- 4, for the least length given
+-- 4, for the least length given: the first PDU lies in the slice (02, R-5)
 abbrev pub LengthRule : ℕ → List ℕ → Type 0
-LengthRule least d = (num 2 8 d ≡ length d) × (least ≤ num 2 8 d)
+LengthRule least d = (num 2 8 d ≤ length d) × (least ≤ num 2 8 d)
 
 -- 5: "24 category = 21", "29 input source = 8", "90 major = 7; 92 detail = 0; 94 system = 8"
 abbrev pub FixedRule : List ℕ → Type 0
@@ -67,7 +67,7 @@ plainTransmitterLayout d =
     ∷ (6 unless (num 1 100 d ≡ 8))
     ∷ (7 unless (num 2 70 d ≡ 0))
     ∷ (64 unless RecordsRule d)
-    ∷ (8 unless (length d ≡ 112))
+    ∷ (8 unless (num 2 8 d ≡ 112))
     ∷ []
 
 -- Transmitter: 1, 2, 3, 4, 5, 6, 7, 64, 8, 9 (01: "Transmitter, 112 bytes")
@@ -147,7 +147,7 @@ plainSignalLayout d =
     ∷ (10 unless (num 2 20 d / 16384 ≡ 1))
     ∷ (11 unless (num 2 22 d ≡ 100))
     ∷ (12 unless ((num 2 28 d % 8 ≡ 0) × (160 ≤ num 2 28 d)))
-    ∷ (8 unless FilledTo (32 + num 2 28 d / 8) (length d))
+    ∷ (8 unless FilledTo (32 + num 2 28 d / 8) (num 2 8 d))
     ∷ []
 
 -- Signal: 1, 2, 3, 4, 10, 11, 12, 8, 131 to 138, 50, 14, 15 (01: "Signal"; 02, R-3 and R-4)

@@ -1,4 +1,4 @@
--- Reading a datagram: the refusals in document 01's order, and the answer; live reading, and archive reading of old captures (02, R-4).
+-- Reading the first PDU of a slice (02, R-5): the refusals in document 01's order, and the answer; live reading, and archive reading of old captures (02, R-4).
 use Prim.Native.Nat.{ℕ, _+_, _-_, _*_, _/_, _%_}
 use mathlib.Core.Path.{_≡_}
 use mathlib.Core.Bool.{Bool, cond, not, _&&_, _||_}
@@ -12,7 +12,8 @@ use Rattle.pdu.specs.Numbers
 use Rattle.pdu.specs.Tables.{filled, isSeven, headerTable, transmitterTable, signalHead}
 use Rattle.pdu.specs.Records.{headerFrom, transmitterFrom, transmitterValues, signalFrom, signalValues}
 use Rattle.pdu.specs.Rules.{wrongVersion, innerRules}
-use Rattle.pdu.specs.Forms.{bodyIn}
+use Rattle.pdu.specs.Forms.{sizeOf, bodyIn}
+use Rattle.pdu.specs.declared.Answer.{Answer}
 use Rattle.pdu.specs.declared.Header.{Header}
 use Rattle.pdu.specs.declared.Transmitter.{Transmitter}
 use Rattle.pdu.specs.declared.Signal.{Signal}
@@ -58,9 +59,9 @@ unfoldable pub wrongType : List ℕ → Bool
 wrongType d =
     not ((saysTransmitter d || eqb (num 1 2 d) Numbers.signalType) && eqb (num 1 3 d) Numbers.radioFamily)
 
--- 4: the length field is the slice's length, and at least the bytes given
+-- 4 (02, R-5): "the length field is above the slice's length or below the fixed part"
 unfoldable pub wrongLength : ℕ → List ℕ → Bool
-wrongLength least d = not (eqb (num 2 8 d) (length d)) || ltb (num 2 8 d) least
+wrongLength least d = ltb (length d) (num 2 8 d) || ltb (num 2 8 d) least
 
 -- 5: category, input source, major, detail and system
 unfoldable pub wrongFixed : List ℕ → Bool
@@ -88,7 +89,7 @@ startRules d =
     ∷ (3 given-when wrongType d)
     ∷ []
 
--- a Transmitter's 4, 5, 6, 7, 64, 8
+-- a Transmitter's 4, 5, 6, 7, 64, 8; "8 measures against the length field" (02, R-5)
 unfoldable pub transmitterLayout : List ℕ → List Refusal
 transmitterLayout d =
     (4 given-when wrongLength Numbers.transmitterLeast d)
@@ -96,7 +97,7 @@ transmitterLayout d =
     ∷ (6 given-when not (eqb (num 1 100 d) Numbers.modulationLength))
     ∷ (7 given-when not (eqb (num 2 70 d) Numbers.patternLength))
     ∷ (64 given-when wrongRecords d)
-    ∷ (8 given-when not (eqb (length d) Numbers.transmitterSize))
+    ∷ (8 given-when not (eqb (num 2 8 d) Numbers.transmitterSize))
     ∷ []
 
 -- a Signal's 4, 10, 11, 12, 8
@@ -106,7 +107,7 @@ signalLayout d =
     ∷ (10 given-when not (eqb (num 2 20 d / Numbers.encodingKept) Numbers.encodingClass))
     ∷ (11 given-when not (eqb (num 2 22 d) Numbers.tdlType))
     ∷ (12 given-when wrongBits (num 2 28 d))
-    ∷ (8 given-when not (eqb (length d) (filled (Numbers.signalLeast + num 2 28 d / 8))))
+    ∷ (8 given-when not (eqb (num 2 8 d) (filled (Numbers.signalLeast + num 2 28 d / 8))))
     ∷ []
 
 -- the layout's rules, by the form
@@ -139,11 +140,19 @@ answerBy n d = cond (eqb n 0) (content d) (Refused n)
 unfoldable pub reading : List ℕ → Reading
 reading d = answerBy (refusal d) d
 
+-- "how many bytes it used" (02, R-5), 0 where the slice is refused
+abbrev pub used : List ℕ → ℕ
+used d = sizeOf (reading d)
+
 -- document 01's number of each answer of reading
 abbrev pub numberOf : Reading → ℕ
 numberOf (Refused n) = n
 numberOf (aTransmitter t) = 0
 numberOf (aSignal s n) = 0
+
+-- number and size of each answer
+abbrev pub answerOf : Reading → Answer
+answerOf r = record { number = numberOf r; size = sizeOf r }
 
 -- the values of each answer: the fields in byte order, and last the size of a Signal's body
 abbrev pub valuesHeld : Reading → List ℕ

@@ -1,12 +1,12 @@
 -- What demand 2's two round trips say, for every form of PDU alike.
-use Prim.Native.Nat.{ℕ}
+use Prim.Native.Nat.{ℕ, _≤_}
 use mathlib.Core.Path.{_≡_}
 use mathlib.Core.Logic.{_⊎_}
 use mathlib.Core.List.{List, [], _++_}
-use lib.ListN.{length, drop}
-use Rattle.wire.specs.Bytes.{Bytes}
+use lib.ListN.{length, take, drop}
+use Rattle.wire.specs.Bytes.{num, Bytes}
 use Rattle.pdu.specs.Forms.{sizeOf, bodyIn, bodyCleared, bytesOf}
-use Rattle.pdu.specs.Reading.{content, bodyOf, reading}
+use Rattle.pdu.specs.Reading.{content, bodyOf, reading, used}
 use Rattle.pdu.specs.Writing.{written, outputAfter, writtenForm, paddingZero}
 use Rattle.pdu.specs.Timing.{timingAt}
 use Rattle.pdu.specs.declared.Signal.{Signal as SignalFields}
@@ -14,11 +14,18 @@ use Rattle.pdu.specs.declared.Reading.{Reading}
 use Rattle.pdu.specs.declared.Reading.the-variants.{Refused, Transmitter, Signal}
 use Rattle.pdu.specs.declared.Written.the-variants.{Size}
 
--- "Written back it is the same bytes with padding zero": what was read of d, written with room, answers the size of d and leaves d with padding
--- zero, and then what stood there
+-- "Written back it is the same bytes with padding zero", of "the first PDU and the bytes used" (02, R-5): what was read of d, written with room,
+-- answers the bytes used and leaves those of d with padding zero, and then what stood there
 pub record WrittenBack (d out : List ℕ) : Type 0 where
-  pub answer : written (content d) (length out) ≡ Size (length d)
-  pub output : outputAfter (content d) (bodyOf d) out ≡ paddingZero d ++ drop (length d) out
+  pub answer : written (content d) (length out) ≡ Size (used d)
+  pub output : outputAfter (content d) (bodyOf d) out ≡ paddingZero d ++ drop (used d) out
+
+-- 02, R-5, of live reading and of archive reading alike: the first PDU of a slice that is taken lies in it, as long as its length field says, and
+-- bytes behind it change nothing
+pub record FirstAlone (read : List ℕ → Reading) (d : List ℕ) : Type 0 where
+  pub fits : sizeOf (read d) ≤ length d
+  pub field : sizeOf (read d) ≡ num 2 8 d
+  pub behind : (tail : List ℕ) → read (take (sizeOf (read d)) d ++ tail) ≡ read d
 
 -- the body that a writing of this form is given, padding inside it zero (02, R-1); a Transmitter has none
 abbrev pub bodyGiven : Reading → List ℕ → List ℕ

@@ -59,11 +59,11 @@ outputAfter r body out =
 
 -- ---- a datagram in written form
 
--- the written form of a taken datagram: what writing gives of what reading answers
+-- the written form of a taken datagram's first PDU: what writing gives of what reading answers
 unfoldable pub writtenForm : List ℕ → List ℕ
 writtenForm d = bytesOf (content d) (bodyOf d)
 
--- a taken datagram with padding zero, the fill included: a function of the table alone
+-- the first PDU of a taken datagram with padding zero, the fill included: a function of the table alone
 unfoldable pub paddingZero : List ℕ → List ℕ
 paddingZero d = clear 0 (tableOf (content d)) d
 
@@ -71,13 +71,17 @@ paddingZero d = clear 0 (tableOf (content d)) d
 abbrev pub bodyBlank : List ℕ → Bool
 bodyBlank d = allBlank Numbers.bodyStart (bodySlots (signalOf d .network .«message_type») (bodySize d)) d
 
--- whether a datagram of this form breaks none of the form's rules, and its padding is zero
-abbrev pub writtenAs : Reading → List ℕ → Bool
-writtenAs r d = eqb (first (formRules r d)) 0 && allBlank 0 (tableOf r) d
+-- whether a datagram has this form's size and its padding is zero
+abbrev pub onlyForm : Reading → List ℕ → Bool
+onlyForm r d = eqb (length d) (sizeOf r) && allBlank 0 (tableOf r) d
 
--- whether a datagram is taken, and its padding is zero
+-- whether a datagram of this form breaks none of the form's rules, has nothing behind the PDU, and its padding is zero
+abbrev pub writtenAs : Reading → List ℕ → Bool
+writtenAs r d = eqb (first (formRules r d)) 0 && onlyForm r d
+
+-- whether a datagram is taken, has nothing behind its first PDU (02, R-5), and its padding is zero
 unfoldable pub inWrittenForm : List ℕ → Bool
-inWrittenForm d = eqb (refusal d) 0 && allBlank 0 (tableOf (content d)) d
+inWrittenForm d = eqb (refusal d) 0 && onlyForm (content d) d
 
 -- what a datagram holds where it is in written form
 unfoldable pub carried : List ℕ → Carried

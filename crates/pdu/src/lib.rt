@@ -226,6 +226,12 @@ pub enum Reading {
     Signal(Signal, u16),
 }
 
+// The number of what reading answered, 0 where a PDU is taken, and its size, 0 where it is refused.
+pub struct Answer {
+    pub number: u8,
+    pub size: u16,
+}
+
 // What writing answers: a refusal number, or the bytes written.
 pub enum Written {
     Refused(u8),

@@ -1,10 +1,11 @@
-// Reads Link 16 PDUs (DIS Transmitter and Signal) as document 01 lays them out.
+// Reads Link 16 PDUs (DIS Transmitter and Signal) as document 01 lays them out: the first of a slice that may hold more (request R-5).
 // Every public call takes every input and is promised down to each bit of its answer.
 ghost use mathlib.Core.Path.{_≡_};
 ghost use Rattle.pdu.specs.Forms.{sizeOf};
 ghost use Rattle.pdu.specs.Reading.{Laid, refusal, content, reading, numberOf, readingSays, readSays};
-ghost use Rattle.pdu.specs.Reading.{archiveRefusal, archiveReading, archiveSays};
+ghost use Rattle.pdu.specs.Reading.{answerOf, archiveRefusal, archiveReading, archiveSays};
 ghost use Rattle.pdu.specs.Writing.{inWrittenForm, carried, carriedSays, carriedSaid};
+use pdu::Answer;
 use pdu::Carried;
 use pdu::Reading;
 use pdu::refusals;
@@ -41,6 +42,30 @@ pub fn archive_refusal(d: &[u8]) -> u8
     signal::body_refusal(d)
 }
 
+// The number and the size of the first PDU of a slice, as reading answers them.
+pub fn answer(datagram: &[u8]) -> Answer
+    ensures { λ r. ⌜ r ≡ answerOf (reading (now (datagram .entry))) ⌝ }
+{
+    let number = reading_refusal(datagram);
+    if number != 0 {
+        return Answer { number, size: 0 };
+    }
+    let size = wire::u16_at(datagram, 8);
+    Answer { number, size }
+}
+
+// The same as archive reading answers them.
+pub fn answer_archive(datagram: &[u8]) -> Answer
+    ensures { λ r. ⌜ r ≡ answerOf (archiveReading (now (datagram .entry))) ⌝ }
+{
+    let number = archive_refusal(datagram);
+    if number != 0 {
+        return Answer { number, size: 0 };
+    }
+    let size = wire::u16_at(datagram, 8);
+    Answer { number, size }
+}
+
 // What a datagram holds that has its layout.
 fn content(d: &[u8]) -> Reading
     requires { ⌜ Laid (now d) ⌝ }
@@ -55,7 +80,8 @@ fn content(d: &[u8]) -> Reading
     }
 }
 
-// Reads a datagram: takes it exactly when it meets its layout and every rule of document 01, else gives the first refusal that applies.
+// Reads the first PDU of a datagram: takes it exactly when it meets its layout and every rule of document 01, else gives the first refusal
+// that applies. What stands behind the PDU is not looked at.
 pub fn read(datagram: &[u8]) -> Reading
     ensures answer { λ r. ⌜ r ≡ reading (now (datagram .entry)) ⌝ }
     ensures says { λ r. ⌜ readingSays r ≡ readSays (now (datagram .entry)) ⌝ }
@@ -79,7 +105,7 @@ pub fn read_archive(datagram: &[u8]) -> Reading
     content(datagram)
 }
 
-// Whether a datagram is taken and already in written form. It does not go by `reading_refusal`, which the compiler inlines where one place
+// Whether a datagram is one PDU, taken and already in written form. It does not go by `reading_refusal`, which the compiler inlines where one place
 // alone calls it.
 pub fn is_written(datagram: &[u8]) -> bool
     ensures { λ r. ⌜ r ≡ inWrittenForm (now (datagram .entry)) ⌝ }

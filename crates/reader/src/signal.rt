@@ -9,6 +9,7 @@ ghost use Rattle.pdu.specs.Tables.{networkTable};
 ghost use Rattle.pdu.specs.Forms.{tableOf};
 ghost use Rattle.pdu.specs.Rules.{bodyRules, innerRules};
 ghost use Rattle.pdu.specs.Reading.{signalOf, bodySize, wrongBits, signalLayout, formRules};
+ghost use Rattle.pdu.specs.Bodies.{Alone};
 ghost use Rattle.pdu.specs.Writing.{bodyBlank, writtenAs};
 ghost use Rattle.pdu.specs.declared.Reading.the-variants.{Signal as aSignal};
 use crate::start;
@@ -42,7 +43,7 @@ fn layout_refusal(d: &[u8]) -> u8
     if wrong_bits(bits) {
         return refusals::DATA_LENGTH;
     }
-    if d.len() != pdu::rules::filled_size(pdu::SIGNAL_LEAST, bits / 8) {
+    if wire::u16_at(d, 8) as usize != pdu::rules::filled_size(pdu::SIGNAL_LEAST, bits / 8) {
         return refusals::PDU_SIZE;
     }
     0
@@ -150,9 +151,9 @@ fn is_body_blank(d: &[u8]) -> bool
     true
 }
 
-// Whether every padding bit of a Signal that breaks no rule, and its fill, is zero.
+// Whether every padding bit of a Signal that breaks no rule and is the whole slice, and its fill, is zero.
 fn is_blank(d: &[u8]) -> bool
-    requires { ⌜ (first (signalLayout (now d)) ≡ 0) × (first (innerRules (aSignal (signalOf (now d)) (bodySize (now d)))) ≡ 0) ⌝ }
+    requires { ⌜ Alone (now d) ⌝ }
     ensures { λ r. ⌜ r ≡ allBlank 0 (tableOf (aSignal (signalOf (now (d .entry))) (bodySize (now (d .entry))))) (now (d .entry)) ⌝ }
 {
     let end = body_end(d);
@@ -161,8 +162,8 @@ fn is_blank(d: &[u8]) -> bool
     wire::both(start::is_blank(d), late)
 }
 
-// Whether no rule from 4 on is broken, and every padding bit and the fill is zero. It goes by the parts of `refusal`, so that these are inlined
-// here too.
+// Whether no rule from 4 on is broken, nothing stands behind the PDU, and every padding bit and the fill is zero. It goes by the parts of `refusal`,
+// so that these are inlined here too.
 pub(crate) fn is_written(d: &[u8]) -> bool
     requires { ⌜ shortest ≤ length (now d) ⌝ }
     ensures { λ r. ⌜ r ≡ writtenAs (aSignal (signalOf (now (d .entry))) (bodySize (now (d .entry)))) (now (d .entry)) ⌝ }
@@ -171,6 +172,9 @@ pub(crate) fn is_written(d: &[u8]) -> bool
         return false;
     }
     if inner_refusal(d) != 0 {
+        return false;
+    }
+    if d.len() != pdu::rules::signal_size(body_size(d)) {
         return false;
     }
     is_blank(d)

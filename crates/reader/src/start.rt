@@ -40,13 +40,13 @@ pub(crate) fn refusal(d: &[u8]) -> u8
     0
 }
 
-// Whether refusal 4 applies, for a PDU whose length field is at least `least`.
+// Whether refusal 4 applies, for a PDU whose length field is at least `least`: it may end before the slice does.
 pub(crate) fn wrong_length(least: u16, d: &[u8]) -> bool
     requires { ⌜ shortest ≤ length (now d) ⌝ }
     ensures { λ r. ⌜ r ≡ wrongLength least (now (d .entry)) ⌝ }
 {
     let field = wire::u16_at(d, 8);
-    wire::either(wire::no(field as usize == d.len()), field < least)
+    wire::either(d.len() < field as usize, field < least)
 }
 
 // The status in byte 10, which versions 5 and 6 have not.

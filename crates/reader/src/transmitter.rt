@@ -62,7 +62,7 @@ fn layout_refusal(d: &[u8]) -> u8
     if wrong_records(d) {
         return refusals::PARAMETER_RECORDS;
     }
-    if d.len() != pdu::TRANSMITTER_SIZE {
+    if wire::u16_at(d, 8) != pdu::TRANSMITTER_SIZE as u16 {
         return refusals::PDU_SIZE;
     }
     0
@@ -162,7 +162,8 @@ fn is_blank(d: &[u8]) -> bool
     wire::both(start::is_blank(d), late)
 }
 
-// Whether no rule from 4 on is broken, and every padding byte is zero. It goes by the parts of `refusal`, so that these are inlined here too.
+// Whether no rule from 4 on is broken, nothing stands behind the PDU, and every padding byte is zero. It goes by the parts of `refusal`, so that
+// these are inlined here too.
 pub(crate) fn is_written(d: &[u8]) -> bool
     requires { ⌜ shortest ≤ length (now d) ⌝ }
     ensures { λ r. ⌜ r ≡ writtenAs (aTransmitter (transmitterOf (now (d .entry)))) (now (d .entry)) ⌝ }
@@ -171,6 +172,9 @@ pub(crate) fn is_written(d: &[u8]) -> bool
         return false;
     }
     if pdu::rules::wrong_sync(read_sync(d)) {
+        return false;
+    }
+    if d.len() != pdu::TRANSMITTER_SIZE {
         return false;
     }
     is_blank(d)

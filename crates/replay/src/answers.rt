@@ -9,7 +9,7 @@ use trunk::Sent;
 // A reply's length.
 const REPLY: usize = trunk::records::HEAD_SIZE;
 
-// `offer NUMBER`
+// `offer NUMBER`, the first one taken
 pub fn offered(answer: Offer) {
     match answer {
         Offer::Refused(number) => show::refused(b"offer", number),

@@ -16,7 +16,7 @@ use Rattle.station.specs.Plain.{Sized, NoneBeyond, HeldAt, Stranger}
 use Rattle.station.specs.Runs.{Call, called, after}
 use Rattle.station.specs.Table.{SameElse, Joined, Counted, Table, nothing, entered, again, joined, positioned, counted, ticked}
 use Rattle.station.specs.Claims.{Present, InRange, Sound}
-use Rattle.station.specs.declared.State.the-variants.{Coarse, Fine}
+use Rattle.station.specs.declared.State.the-variants.{Coarse}
 use Rattle.station.specs.declared.Settings.{Settings}
 use Rattle.station.specs.declared.Standing.{Standing}
 use Rattle.station.specs.declared.Own.{Own}

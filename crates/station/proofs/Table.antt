@@ -23,7 +23,7 @@ use Rattle.pdu.specs.declared.Reading.the-variants.{Refused, Transmitter as aTr
 use Rattle.station.specs.Units.{levelOf, netOf, exchangesOf, countOf, idOf, stateOf, clockOf, keyOf, blank, unitAt, placeOf, known, withUnit}
 use Rattle.station.specs.Units.{limitOf, withNew}
 use Rattle.station.specs.Plain.{Sized, LowestFree}
-use Rattle.station.specs.Hearing.{answering, unless, newUnit, renewed, enter, renew, hearTransmitter, otherId, senderOf, signalRules}
+use Rattle.station.specs.Hearing.{answering, unless, newUnit, enter, renew, hearTransmitter, otherId, senderOf, signalRules}
 use Rattle.station.specs.Hearing.{messageOf, stateAfter, bothCoarse, countJoined, afterJ00, afterPpli, heardUnit, isFine, isCoarse, countsFor}
 use Rattle.station.specs.Hearing.{countNext, stateTimed, afterTiming, hearMessage, hearSignal}
 use Rattle.station.specs.Hearing.{step, firstWord, heard}

@@ -18,7 +18,8 @@ use Rattle.wire.specs.Rules.{Verdict}
 use Rattle.trunk.specs.Head.{headSize}
 use Rattle.trunk.specs.Kinds.{recordSize}
 use Rattle.trunk.specs.Record.{replyOf, numberIn, carriedIn}
-use Rattle.trunk.specs.Near.{rowKind, rowRecord, oneAccepted, stored, offerRules, offered, storeAfter, sendRules, sent, sentOut}
+use Rattle.trunk.specs.Bundle.{bundleStop, bundle}
+use Rattle.trunk.specs.Near.{rowKind, rowRecord, moreAccepted, storedAll, offerRules, offered, storeAfter, sendRules, sent, sentOut}
 use Rattle.trunk.specs.Near.{replyRules, acknowledgedAfter, acknowledging, replied}
 use Rattle.trunk.specs.Far.{arrivalRules, isNext, countAfter, delivered, arrived, replyAfter, outputAfter}
 use Rattle.trunk.specs.Plain.{plainOffer, plainSend, plainReply, plainArrival}
@@ -40,17 +41,19 @@ use Rattle.trunk.proofs.Refused.{reply-kept, output-kept}
 -- an offer's answer with the near end after it, and the store after it
 pub data OfferOutcome (near : Near) (store d : List ℕ) : Offered → List ℕ → Type 0 where
   offer-refused : (n : ℕ)
-      → FirstBroken n (plainOffer near store d)
+      → FirstBroken n (plainOffer near store (bundleStop d) (length (bundle d)))
       → OfferOutcome near store d (record { near = near; answer = offerRefused n }) store
-  offer-taken : Met (plainOffer near store d)
-      → OfferOutcome near store d (record { near = oneAccepted near; answer = Taken (near .accepted) }) (stored near store d)
+  offer-taken : Met (plainOffer near store (bundleStop d) (length (bundle d)))
+      → OfferOutcome near store d
+      (record { near = moreAccepted near (length (bundle d)); answer = Taken (near .accepted) })
+      (storedAll (near .accepted) store (bundle d))
 
 pub offer-outcome : (near : Near) (store d : List ℕ) → OfferOutcome near store d (offered near store d) (storeAfter near store d)
 unfolding offered storeAfter
 offer-outcome near store d = by (eqb (first (offerRules near store d)) 0) refl
   where
-    v : Verdict (offerRules near store d) (plainOffer near store d)
-    v = offer-verdict near store d
+    v : Verdict (offerRules near store d) (plainOffer near store (bundleStop d) (length (bundle d)))
+    v = offer-verdict near store (bundleStop d) (length (bundle d))
 
     by : (b : Bool) → eqb (first (offerRules near store d)) 0 ≡ b → OfferOutcome near store d (offered near store d) (storeAfter near store d)
     by true e = rw e (offer-taken (v .none .0 (eqb-true _ _ e)))

@@ -2,16 +2,17 @@
 -- and what the near end counts as acknowledged was put out.
 -- Assumes nothing.
 use Prim.Native.Nat.{ℕ}
-use mathlib.Core.Path.{_≡_, refl, ap, ap₂, subst, _∙_}
+use mathlib.Core.Path.{_≡_, refl, sym, ap, ap₂, subst, _∙_}
 use mathlib.Core.Logic.{_⊎_, inl, inr}
 use mathlib.Core.List.{List, [], _∷_, _++_, List·Memᴰ, List·Memᴰ·head, List·Memᴰ·tail, List·Memᴰ·not-nil, List·Memᴰ·append-cases}
-use mathlib.Core.List.{List·Memᴰ·cases-cons, List·Memᴰ·eq-of-singleton, Memᴰ·append-left, map, map-append}
+use mathlib.Core.List.{List·Memᴰ·cases-cons, Memᴰ·append-left, Memᴰ·of-map, map, map-append}
 use lib.ListN.{getD, take, drop, take-append-drop}
 use lib.Seq.{getD-take}
 use native.Mathlib.Omega.{arith}
 use Rattle.pdu.specs.Writing.{paddingZero}
 use Rattle.station.specs.Runs.{Call as StationCall, datagram, time}
 use Rattle.station.specs.declared.Settings.{Settings}
+use Rattle.trunk.specs.Bundle.{bundle}
 use Rattle.trunk.specs.Line.{Entry, offer-made, send-made, reply-heard, record-heard, clock-set, Call, offer, send, to-near, to-far, tick}
 use Rattle.trunk.specs.Line.{Line, start, step, run, accepted, putOut, putOutBy, events, eventsBy, Fair}
 use Rattle.trunk.specs.Demand.{given, givenBy, count}
@@ -47,12 +48,19 @@ all-heard (e ∷ log) = datagrams-append (events log) (eventsBy e) ∙ ap₂ _++
 
 -- what was offered and not refused came from an entry
 Came : List ℕ → List Entry → Type 0
-Came p log = (d : List ℕ) × (i : ℕ) × (store : List ℕ) × List·Memᴰ (offer-made d (Taken i) store) log × (p ≡ paddingZero d)
+Came p log =
+    (d : List ℕ)
+    × (i : ℕ)
+    × (store : List ℕ)
+    × List·Memᴰ (offer-made d (Taken i) store) log
+    × ((q : List ℕ) × List·Memᴰ q (bundle d) × (p ≡ paddingZero q))
 
 here : (p : List ℕ) (log : List Entry) (e : Entry) → List·Memᴰ p (map paddingZero (givenBy e)) → Came p (e ∷ log)
 unfolding Came
 here p log (offer-made d (offerRefused n) store) m = absurd (List·Memᴰ·not-nil m)
-here p log (offer-made d (Taken i) store) m = (d, i, store, List·Memᴰ·head refl, List·Memᴰ·eq-of-singleton m)
+here p log (offer-made d (Taken i) store) m =
+    let (q, inside, form) = Memᴰ·of-map paddingZero (bundle d) m in
+    (d, i, store, List·Memᴰ·head refl, (q, inside, sym form))
 here p log (send-made i a out) m = absurd (List·Memᴰ·not-nil m)
 here p log (reply-heard r a) m = absurd (List·Memᴰ·not-nil m)
 here p log (record-heard r a reply out) m = absurd (List·Memᴰ·not-nil m)
@@ -133,7 +141,9 @@ offered-before settings store calls p m =
       call = elim (in-list (c .0) (Taken (c .1)) (c .2) begin calls (c .3)) [ inl none ↦ absurd (List·Memᴰ·not-nil none) | inr call ↦ call ];
       store = c .2;
       entry = c .3;
-      form = c .4;
+      pdu = c .4 .0;
+      inside = c .4 .1;
+      form = c .4 .2;
     }
 
 pub consequences :

@@ -18,6 +18,8 @@ use Rattle.station.specs.declared.Settings.{Settings}
 use Rattle.trunk.specs.Head.{headSize}
 use Rattle.trunk.specs.Kinds.{recordSize}
 use Rattle.trunk.specs.Record.{replyOf, numberIn, carriedIn}
+use Rattle.trunk.specs.Plain.{AllPdus}
+use Rattle.trunk.specs.Bundle.{bundleStop, bundle}
 use Rattle.trunk.specs.Near.{rowKind, replied}
 use Rattle.trunk.specs.Far.{ticked}
 use Rattle.trunk.specs.Line.{Entry, offer-made, send-made, reply-heard, record-heard, clock-set, Call, offer, send, to-near, to-far, tick}
@@ -30,6 +32,7 @@ use Rattle.trunk.specs.declared.Sending.{Sending}
 use Rattle.trunk.specs.declared.Replied.{Replied}
 use Rattle.trunk.specs.declared.Arrived.{Arrived}
 use Rattle.trunk.proofs.RecordLaws.{reply-plain, reply-written}
+use Rattle.trunk.proofs.BundleLaws.{walked, all-bytes}
 use Rattle.trunk.proofs.RuleLaws.{offer-met, held-met, reply-met, pdu-met}
 use Rattle.trunk.proofs.CallLaws.{OfferOutcome, offer-refused, offer-taken, offer-outcome, SendOutcome, send-refused, send-taken}
 use Rattle.trunk.proofs.CallLaws.{send-outcome, ReplyOutcome, reply-refused, reply-taken, reply-outcome, ArrivalOutcome, arrival-refused}
@@ -37,7 +40,7 @@ use Rattle.trunk.proofs.CallLaws.{arrival-delivered, arrival-repeat, ar
 use Rattle.trunk.proofs.LogLaws.{Seen, seen, more, accepting, adds-nothing, adds-accepted, writing, adds-written, confirming}
 use Rattle.trunk.proofs.LogLaws.{delivering, adds-delivered, adds-timed}
 use Rattle.trunk.proofs.Progress.{replied-next, acknowledged-next}
-use Rattle.trunk.proofs.Invariant.{reply-record, Holds, writes, offer-record, offer-row, offer-keeps, held-size, held-written}
+use Rattle.trunk.proofs.Invariant.{reply-record, Holds, writes, bundle-keeps, bundle-row, bundle-rows, held-size, held-written}
 use Rattle.trunk.proofs.Invariant.{send-keeps, larger, reply-keeps, known-bytes, arriving, delivery-keeps, clock-keeps}
 
 -- after a log: the invariant, what was accepted is what was offered with padding zero, and every entry says what it should
@@ -45,6 +48,11 @@ pub record Stands (station : Station) (near : Near) (store : List ℕ) (far : Fa
   pub holds : Holds station near store far (seen log)
   pub as-given : accepted log ≡ map paddingZero (given log)
   pub all-say : AllSay log
+
+-- what is accepted of PDUs is their bytes with padding zero
+written-forms : (ps : List (List ℕ)) → AllPdus ps → map writtenForm ps ≡ map paddingZero ps
+written-forms [] all = refl
+written-forms (p ∷ ps) (one, all) = ap₂ _∷_ (written-form-back p (one .taken)) (written-forms ps all)
 
 module _ {station : Station} {near : Near} {store : List ℕ} {far : Far} {log : List Entry} (s : Stands station near store far log) where
   -- an entry, with what it says
@@ -70,13 +78,17 @@ module _ {station : Station} {near : Near} {store : List ℕ} {far : Far} {log :
       → Stands station (o .near) store′ far (offer-made d (o .answer) store′ ∷ log)
   after-offer d b (offer-refused n f) = also _ refl (adds-nothing (seen log)) (s .holds) tt
   after-offer d b (offer-taken m) =
-      let met = offer-met near store d m in
-      let row = offer-row (s .holds) d b met in
+      let ps : List (List ℕ) = bundle d in
+      let qs : List (List ℕ) = map writtenForm ps in
+      let met = offer-met near store (bundleStop d) (length ps) m in
+      let (left, w) = walked d in
+      let bytes = all-bytes ps left (subst Bytes (w .parts) b) in
+      let kept = bundle-keeps (s .holds) ps bytes (w .each) (met .whole) (met .numbers) (met .free) in
       also _
-      (ap (λ (p : List ℕ). p ∷ []) (written-form-back d (met .taken)))
-      (adds-accepted (seen log) (writtenForm d) _ ∙ ap (accepting (seen log) (writtenForm d)) (row ∙ sym (offer-record (s .holds) d b met)))
-      (offer-keeps (s .holds) d b met)
-      (s .holds .counts .near-accepted, row)
+      (written-forms ps (w .each))
+      (adds-accepted (seen log) qs _ ∙ ap (accepting (seen log) qs) (bundle-rows (s .holds) ps kept))
+      kept
+      (s .holds .counts .near-accepted, bundle-row (s .holds) ps kept)
 
   after-send :
       (i : ℕ) (out : List ℕ) {o : Sending} {out′ : List ℕ}

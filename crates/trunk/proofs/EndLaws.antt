@@ -17,18 +17,19 @@ use Rattle.wire.proofs.ByteLaws.{splice-start}
 use Rattle.wire.proofs.FirstLaws.{unbroken, none-of, first-here, first-next}
 use Rattle.wire.proofs.RuleLaws.{not-below, neither}
 use Rattle.trunk.specs.Head.{headSize}
-use Rattle.trunk.specs.Kinds.{load, isUnknown, recordSize, longestPdu, longestRecord, noKind}
+use Rattle.trunk.specs.Kinds.{load, isUnknown, recordSize, longestPdu, longestRecord}
 use Rattle.trunk.specs.Record.{kindIn, numberIn, lastNumber, unknownKind, wrongSize, isReply, lastOfAll, formRules, pduRules, checkRules}
-use Rattle.trunk.specs.Near.{storeSize, wrongStore, rowStart, rowKind, rowRecord, offerRest, offerRulesOf, sendRules, replyRest, replyRules}
+use Rattle.trunk.specs.Near.{storeSize, mostPdus, wrongStore, rowStart, rowKind, rowRecord, offerRest, offerRulesOf, sendRules, replyRest}
+use Rattle.trunk.specs.Near.{replyRules}
 use Rattle.trunk.specs.Far.{roomRules, arrivalRest, arrivalRules, isNext}
 use Rattle.trunk.specs.declared.Near.{Near}
 use Rattle.trunk.proofs.KindLaws.{record-small}
 
 -- ---- rules in order
 
--- the reader's own number, where it is the refusal
-reader-passes : (n : ℕ) (rest : List Refusal) → first ((n given-when not (eqb n 0)) ∷ rest) ≡ 0 → (n ≡ 0) × (first rest ≡ 0)
-reader-passes n rest e = go (eqb n 0) refl e
+-- the number that stops a slice, where it is the refusal
+stop-passes : (n : ℕ) (rest : List Refusal) → first ((n given-when not (eqb n 0)) ∷ rest) ≡ 0 → (n ≡ 0) × (first rest ≡ 0)
+stop-passes n rest e = go (eqb n 0) refl e
   where
     go : (b : Bool) → eqb n 0 ≡ b → cond (not b) n (first rest) ≡ 0 → (n ≡ 0) × (first rest ≡ 0)
     go true z r = (eqb-true n 0 z, r)
@@ -95,20 +96,22 @@ pub reply-form : (near : Near) (r : List ℕ) → first (replyRules near r) ≡ 
 unfolding replyRules
 reply-form near r e = formed r (form-none r (replyRest near r) e .0)
 
--- an offer that is taken: the store has its size, the datagram is carried, and the number is not the last
-pub record OfferFits (near : Near) (size kind : ℕ) : Type 0 where
+-- an offer that is taken: the store has its size, nothing stops the slice, and its PDUs are few enough for the numbers
+pub record OfferFits (near : Near) (size stop pdus : ℕ) : Type 0 where
   pub store : size ≡ storeSize
-  pub carried : kind ≢ noKind
-  pub number : near .accepted ≢ lastNumber
+  pub none : stop ≡ 0
+  pub few : pdus ≤ mostPdus
+  pub numbers : near .accepted + pdus ≤ lastNumber
 
-pub offer-fits : (near : Near) (size read kind : ℕ) → first (offerRulesOf near size read kind) ≡ 0 → OfferFits near size kind
+pub offer-fits : (near : Near) (size stop pdus : ℕ) → first (offerRulesOf near size stop pdus) ≡ 0 → OfferFits near size stop pdus
 unfolding offerRulesOf
-offer-fits near size read kind e =
+offer-fits near size stop pdus e =
     let store-rule = (28 given-when wrongStore size) ∷ [] in
-    let (store, behind) = none-of store-rule ((read given-when not (eqb read 0)) ∷ offerRest near kind) refl e in
+    let (store, behind) = none-of store-rule ((stop given-when not (eqb stop 0)) ∷ offerRest near pdus) refl e in
     let (full, end) = unbroken store-rule refl store in
-    let (carried, (number, window)) = unbroken (offerRest near kind) refl (reader-passes read (offerRest near kind) behind .1) in
-    record { store = eqb-true _ _ (not-false _ full); carried = eqb-false _ _ carried; number = eqb-false _ _ number }
+    let (none, rest) = stop-passes stop (offerRest near pdus) behind in
+    let (few, (numbers, window)) = unbroken (offerRest near pdus) refl rest in
+    record { store = eqb-true _ _ (not-false _ full); none = none; few = ltb-false _ _ few; numbers = ltb-false _ _ numbers }
 
 -- a send that is taken: the store has its size, and the buffer has room for the record
 pub record SendFits (store : List ℕ) (i room : ℕ) : Type 0 where

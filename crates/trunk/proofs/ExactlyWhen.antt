@@ -5,7 +5,7 @@ use Prim.Native.Nat.{ℕ}
 use mathlib.Core.Path.{_≡_, refl, sym, ap, ap₂, subst, _∙_}
 use mathlib.Core.Logic.{_↔_, _≢_}
 use mathlib.Core.Bool.{Bool, true, false}
-use mathlib.Core.List.{List, [], _∷_}
+use mathlib.Core.List.{List, [], _∷_, _++_}
 use lib.ListN.{length, getD}
 use lib.Dec.{eqb}
 use borrow.Author.Tests.{eqb-true, eqb-false}
@@ -17,10 +17,11 @@ use Rattle.wire.specs.Rules.{Verdict}
 use Rattle.station.specs.Hearing.{heard}
 use Rattle.trunk.specs.Kinds.{load, isNothing, recordSize}
 use Rattle.trunk.specs.Record.{kindIn, numberIn, carriedIn, isReply, checkRules, checked, checkedSays}
+use Rattle.trunk.specs.Bundle.{bundleStop, bundle}
 use Rattle.trunk.specs.Near.{rowKind, acknowledgedAfter, offerSays, sendSays, replySays, offered, sent, replied}
 use Rattle.trunk.specs.Far.{arrived, arrivalSays}
-use Rattle.trunk.specs.Exactly.{OfferExactly, SendExactly, ReplyExactly, ArriveExactly, CheckExactly, AnswersSay}
-use Rattle.trunk.specs.Plain.{plainOffer, plainSend, plainReply, plainArrival, plainCheck}
+use Rattle.trunk.specs.Exactly.{AnswerExactly, SliceExactly, OfferExactly, SendExactly, ReplyExactly, ArriveExactly, CheckExactly, AnswersSay}
+use Rattle.trunk.specs.Plain.{joined, plainOffer, plainSend, plainReply, plainArrival, plainCheck}
 use Rattle.trunk.specs.declared.Checked.the-variants.{Refused as checkRefused, Reply as aReply, Pdu}
 use Rattle.trunk.specs.declared.Near.{Near}
 use Rattle.trunk.specs.declared.Far.{Far}
@@ -34,6 +35,7 @@ use Rattle.trunk.specs.declared.Arrival.{Arrival}
 use Rattle.trunk.specs.declared.Arrival.the-variants.{Refused as arrivalRefused, Delivered, Repeat, Early}
 use Rattle.trunk.specs.declared.Arrived.{Arrived}
 use Rattle.trunk.proofs.KindLaws.{plain-length, reply-says, no-reply-says}
+use Rattle.trunk.proofs.BundleLaws.{walked, walked-only, left-only}
 use Rattle.trunk.proofs.RuleLaws.{offer-verdict, send-verdict, reply-verdict, arrival-verdict, check-verdict}
 use Rattle.trunk.proofs.CallLaws.{after-is-max, OfferOutcome, offer-refused, offer-taken, offer-outcome, SendOutcome, send-refused}
 use Rattle.trunk.proofs.CallLaws.{send-taken, send-outcome, ReplyOutcome, reply-refused, reply-taken, reply-outcome, ArrivalOutcome}
@@ -70,23 +72,47 @@ offer-no-taken n i e = let z : _≡_ {A = ℕ} 0 1 = cc in omega arith
 same-taken : (i j : ℕ) → Taken j ≡ Taken i → i ≡ j
 same-taken i j e = cc
 
-offer-exactly : (near : Near) (store d : List ℕ) {o : Offered} {s : List ℕ} → OfferOutcome near store d o s → OfferExactly near store d (o .answer)
+offer-exactly :
+    (near : Near) (store d : List ℕ) {o : Offered} {s : List ℕ}
+    → OfferOutcome near store d o s
+    → AnswerExactly near store (bundleStop d) (length (bundle d)) (o .answer)
 offer-exactly near store d (offer-refused m f) =
-    let v = offer-verdict near store d in
+    let v = offer-verdict near store (bundleStop d) (length (bundle d)) in
+    let rules = plainOffer near store (bundleStop d) (length (bundle d)) in
     record {
-      refused = refused-as offerRefused offerSays (λ n. refl) (plainOffer near store d) v m f;
-      taken = λ i. neither-holds (offer-no-taken m i) (λ x. clash (plainOffer near store d) v m f (x .0));
+      refused = refused-as offerRefused offerSays (λ n. refl) rules v m f;
+      taken = λ i. neither-holds (offer-no-taken m i) (λ x. clash rules v m f (x .0));
     }
 offer-exactly near store d (offer-taken met) =
-    let v = offer-verdict near store d in
+    let v = offer-verdict near store (bundleStop d) (length (bundle d)) in
+    let rules = plainOffer near store (bundleStop d) (length (bundle d)) in
     record {
-      refused = λ n. neither-holds (λ e. offer-no-taken n (near .accepted) (sym e)) (λ f. clash (plainOffer near store d) v n f met);
+      refused = λ n. neither-holds (λ e. offer-no-taken n (near .accepted) (sym e)) (λ f. clash rules v n f met);
       taken = λ i. (λ e. (met, same-taken i (near .accepted) e), λ x. ap Taken (sym (x .1)));
+    }
+
+-- what the definitions say of a slice is what it is in plain numbers, and nothing else is
+pub slice-exactly-when : (d : List ℕ) → SliceExactly d (bundle d) (bundleStop d)
+slice-exactly-when d =
+    let (left, w) = walked d in
+    record {
+      left = left;
+      walked = w;
+      only = λ ps l n v.
+          let same = walked-only d ps l n v in
+          let parts = w .parts ∙ ap (λ (q : List (List ℕ)). joined q ++ left) (sym (same .pdus)) in
+          (same .pdus, left-only d ps l left (v .parts) parts, same .stop);
     }
 
 -- an offer's answer, exactly when
 pub offer-exactly-when : (near : Near) (store d : List ℕ) → OfferExactly near store d (offered near store d .answer)
-offer-exactly-when near store d = offer-exactly near store d (offer-outcome near store d)
+offer-exactly-when near store d =
+    record {
+      pdus = bundle d;
+      stop = bundleStop d;
+      slice = slice-exactly-when d;
+      answer = offer-exactly near store d (offer-outcome near store d);
+    }
 
 -- ---- sending
 

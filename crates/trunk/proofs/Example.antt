@@ -1,6 +1,6 @@
--- One list of calls, computed: it is fair, and each call answers as its line says. Four PDUs are accepted; a record comes early, one is handed
--- over twice, one is lost, replies are lost or come late, and calls at both ends are refused. So demand 3's premise can be met, and it speaks of
--- lists in which something happens.
+-- One list of calls, computed: it is fair, and each call answers as its line says. Four PDUs are accepted, three of them in one bundle; a record comes
+-- early, one is handed over twice, one is lost, replies are lost or come late, and calls at both ends are refused. So demand 3's premise can be met,
+-- and it speaks of lists in which something happens.
 -- Assumes nothing.
 use Prim.Native.Nat.{ℕ, zero, suc, _+_, _*_}
 use mathlib.Core.Path.{_≡_, refl, ap₂}
@@ -30,7 +30,9 @@ use Rattle.station.specs.declared.Settings.{Settings}
 use Rattle.station.specs.Units.{made}
 use Rattle.trunk.specs.Kinds.{load, longestPdu}
 use Rattle.trunk.specs.Record.{headFor, recordOf, replyOf, unknownKind, wrongSize, isReply, lastOfAll, wrongCarried, formRules, pduRules}
-use Rattle.trunk.specs.Near.{storeSize, rowSize, offerRulesOf, offered, storeAfter, sendRules, sent, sentOut, replyRules, replied}
+use Rattle.trunk.specs.Bundle.{stopOf, stopIn, pdusIn, sliceStop, bundle, bundleStop}
+use Rattle.trunk.specs.Near.{storeSize, rowSize, offerRulesOf, storedAll, offered, storeAfter, sendRules, sent, sentOut, replyRules}
+use Rattle.trunk.specs.Near.{replied}
 use Rattle.trunk.specs.Far.{isNext, countAfter, arrivalRules, arrived, replyAfter, outputAfter, ticked}
 use Rattle.trunk.specs.Line.{Entry, offer-made, send-made, reply-heard, record-heard, clock-set, Call, offer, send, to-near, to-far, tick}
 use Rattle.trunk.specs.Line.{Line, start, step, run, collect, accepted, acknowledged, written, Allowed, Fair}
@@ -140,7 +142,13 @@ entry-message = signal 68 (zeros 10) 0
 unfoldable pub order : List ℕ
 order = signal 60 [] 2
 
--- its timing reply, a Signal of type 2 and version 7 with status 17, whose first two body bytes are given: the padding inside the body, and three bits of the field
+-- so many such orders in one datagram
+unfoldable pub orders : ℕ → List ℕ
+orders zero = []
+orders (suc n) = order ++ orders n
+
+-- its timing reply, a Signal of type 2 and version 7 with status 17, whose first two body bytes are given: the padding inside the body, and three
+-- bits of the field
 unfoldable pub timing : ℕ → ℕ → List ℕ
 timing a b =
     start-of 7 17 26 60
@@ -191,11 +199,12 @@ record-2 = recordOf (headFor 18 2) (timing 0 5)
 -- each call with its answer
 unfoldable pub story : List (Call × Said)
 story =
-    (offer (unit 5), offer-said (Taken 0))
+    (offer (unit 5 ++ entry-message ++ timing 255 253), offer-said (Taken 0))  -- a bundle of three: numbers 0, 1 and 2
     ∷ (offer (zeros 11), offer-said (offerRefused 1))
-    ∷ (offer entry-message, offer-said (Taken 1))
-    ∷ (offer (timing 255 253), offer-said (Taken 2))
+    ∷ (offer (order ++ zeros 11), offer-said (offerRefused 1))  -- what stands behind the first PDU is none: nothing is taken
     ∷ (offer order, offer-said (Taken 3))
+    ∷ (offer (orders 9), offer-said (offerRefused 51))
+    ∷ (offer (orders 5), offer-said (offerRefused 24))  -- four rows are free
     ∷ (sending 1, send-said (Size 73))
     ∷ (arriving record-1, early-said)  -- number 1 before number 0; its reply is lost
     ∷ (send 0 (zeros 116), send-said (sendRefused 16))
@@ -241,12 +250,12 @@ computed :
     × (count (after-all .log) ≡ 3)
     × (acknowledged (after-all .log) ≡ 2)
     × (stateOf (after-all .far .station) ≡ Fine)
-unfolding fair allowed among same said story before after-all sending arriving record-0 record-1 record-2 unit entry-message order
+unfolding fair allowed among same said story before after-all sending arriving record-0 record-1 record-2 unit entry-message order orders
+    stopOf stopIn pdusIn sliceStop bundle bundleStop storedAll
     signal timing start-of zeros offered storeAfter offerRulesOf sent sentOut sendRules replied replyRules arrived isNext countAfter replyAfter
     outputAfter arrivalRules ticked recordOf load unknownKind wrongSize isReply lastOfAll wrongCarried formRules pduRules wrongVersion
-    wrongType wrongLength wrongFixed wrongRecords wrongStatus wrongSync wrongBits networkRules liveRules bodyRules readingRules refusal
-    content reading transmitterOf
-    signalOf writtenForm inWrittenForm accessRules slotRules innerRules bodySlots bytesOf startRules transmitterLayout signalLayout wordAt
+    wrongType wrongLength wrongFixed wrongRecords wrongStatus wrongSync wrongBits networkRules liveRules bodyRules readingRules refusal content
+    reading transmitterOf signalOf writtenForm inWrittenForm accessRules slotRules innerRules bodySlots bytesOf startRules transmitterLayout signalLayout wordAt
     least wordOf fresh made placeOf enter renew hearTransmitter otherId stationRules labelled wordSaying messageOf afterJ00 afterTiming afterPpli
     hearMessage hearSignal station-step heard atTime clocked
 computed = (refl, refl, refl, refl, refl, refl)

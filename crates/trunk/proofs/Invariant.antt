@@ -1,13 +1,13 @@
 -- What holds between the two ends, the store and what a log says, after every fair list of calls (`Holds`); and that each call that is taken
 -- keeps it. The near end's rows hold the records of what is not acknowledged, and what a call wrote is such a record or a reply.
 -- Assumes nothing.
-use Prim.Native.Nat.{ℕ, _+_, _≤_, _<_, max}
+use Prim.Native.Nat.{ℕ, suc, _+_, _≤_, _<_, max}
 use mathlib.Core.Path.{_≡_, refl, sym, ap, ap₂, subst, subst₂, _∙_}
 use mathlib.Core.Logic.{_≢_, inl, inr}
 use mathlib.Core.Bool.{Bool, true, false}
 use mathlib.Core.List.{List, [], _∷_, _++_, List·Memᴰ, List·Memᴰ·head, List·Memᴰ·append-cases, List·Memᴰ·eq-of-singleton, Memᴰ·append-left}
-use mathlib.Core.List.{Memᴰ·append-right}
-use lib.ListN.{length, getD, take, drop, length-append, List·getD-append}
+use mathlib.Core.List.{Memᴰ·append-right, map, append-assoc}
+use lib.ListN.{length, getD, take, drop, length-append, length-map, List·getD-append}
 use lib.Seq.{length-sets, take-at, take-suc, take-append-le, getD-append-seam}
 use lib.Dec.{ltb}
 use native.Mathlib.Numerals.{add-one}
@@ -20,21 +20,23 @@ use Rattle.pdu.specs.declared.Reading.{Reading}
 use Rattle.station.specs.Runs.{Call as StationCall, datagram, time, called, after, answers}
 use Rattle.station.specs.Hearing.{heard}
 use Rattle.station.specs.declared.Station.{Station}
-use Rattle.trunk.specs.Kinds.{recordSize, replyKind, kindOf}
+use Rattle.trunk.specs.Kinds.{recordSize, replyKind, kindOf, noKind}
 use Rattle.trunk.specs.Record.{headFor, recordOf, replyOf, kindIn, numberIn, carriedIn, lastNumber}
-use Rattle.trunk.specs.Near.{rows, rowSize, storeSize, rowStart, rowKind, rowRecord, offerRecord, oneAccepted, stored}
+use Rattle.trunk.specs.Near.{rows, rowSize, storeSize, rowStart, rowKind, rowRecord, offerRecord, stored, storedAll, moreAccepted}
 use Rattle.trunk.specs.Near.{acknowledgedAfter, acknowledging}
 use Rattle.trunk.specs.Far.{delivered, ticked}
-use Rattle.trunk.specs.Plain.{recordFor, plainLength, plainRowKind, plainRow}
+use Rattle.trunk.specs.Plain.{recordFor, plainLength, plainRowKind, plainRow, AllPdus}
+use Rattle.trunk.specs.Line.{rowsFrom}
 use Rattle.trunk.specs.declared.Near.{Near}
 use Rattle.trunk.specs.declared.Far.{Far}
 use Rattle.trunk.proofs.KindLaws.{no-reply-says, record-small, plain-length}
 use Rattle.trunk.proofs.RecordLaws.{type-says, Carried, carried-kind, carried-form, record-bytes, record-for, pdu-kind, pdu-number}
 use Rattle.trunk.proofs.RecordLaws.{pdu-length, pdu-carried, pdu-bytes, reply-sound}
-use Rattle.trunk.proofs.RuleLaws.{OfferMet}
+use Rattle.trunk.proofs.BundleLaws.{AllBytes}
 use Rattle.trunk.proofs.CallLaws.{after-is-max}
 use Rattle.trunk.proofs.RowLaws.{RowHolds, row-written, row-kept, rows-differ, row-kind}
 use Rattle.trunk.proofs.LogLaws.{Seen, accepting, writing, confirming, delivering, timing, after-more, answers-more}
+use Rattle.trunk.proofs.LogLaws.{accepts-none, accepts-next}
 
 -- record i of the PDUs accepted
 abbrev pub recordIn : List (List ℕ) → ℕ → List ℕ
@@ -115,6 +117,17 @@ module _ (pdus : List (List ℕ)) (p : List ℕ) where
           let least : length pdus ≤ i = ltb-false _ _ e in
           subst P (omega (arith, longer)) new
 
+-- what a near end and its store need for one PDU more
+pub record OneFits (near : Near) (store : List ℕ) : Type 0 where
+  pub whole : length store ≡ storeSize
+  pub more : near .accepted < lastNumber
+  pub free : near .accepted < near .acknowledged + rows
+
+-- the records of PDUs from a number on
+abbrev pub recordsFrom : ℕ → List (List ℕ) → List (List ℕ)
+recordsFrom number [] = []
+recordsFrom number (p ∷ ps) = recordFor number p ∷ recordsFrom (number + 1) ps
+
 -- ---- what was written
 
 known-more : (pdus : List (List ℕ)) (k : ℕ) (p r : List ℕ) → Known pdus k r → Known (pdus ++ (p ∷ [])) k r
@@ -160,27 +173,27 @@ module _ {station : Station} {near : Near} {store : List ℕ} {far : Far} {v : S
         played = h .played;
       }
 
-  -- ---- an offer
+  -- ---- one PDU of an offer
 
-  module _ (d : List ℕ) (b : Bytes d) (m : OfferMet near store d) where
+  module _ (d : List ℕ) (b : Bytes d) (k : kindOf (reading d) ≢ noKind) (m : OneFits near store) where
     form : Carried (writtenForm d) × (reading (writtenForm d) ≡ reading d)
-    form = carried-form d b (eqb-false _ _ (type-says d (m .taken) .1 (m .typed)))
+    form = carried-form d b k
 
     room : length (v .pdus) < lastNumber
-    room = let other = m .more in omega (arith, h .counts .few, h .counts .near-accepted)
+    room = omega (arith, m .more, h .counts .near-accepted)
 
     -- what it writes is the new PDU's record
-    new-record : offerRecord near d ≡ recordFor (length (v .pdus)) (writtenForm d)
+    new-record : offerRecord (near .accepted) d ≡ recordFor (length (v .pdus)) (writtenForm d)
     new-record =
         ap₂ (λ (r : Reading) (n : ℕ). recordOf (headFor (kindOf r) n) (writtenForm d)) (sym (form .1)) (h .counts .near-accepted)
         ∙ record-for (length (v .pdus)) (writtenForm d) (form .0 .kind)
 
-    new-fits : length (offerRecord near d) ≤ rowSize
+    new-fits : length (offerRecord (near .accepted) d) ≤ rowSize
     new-fits =
         rw (new-record, pdu-length (length (v .pdus)) (writtenForm d) (form .0) room)
         (omega (arith, record-small (kindOf (reading (writtenForm d)))))
 
-    stored-record : offerRecord near d ≡ recordIn (v .pdus ++ (writtenForm d ∷ [])) (length (v .pdus))
+    stored-record : offerRecord (near .accepted) d ≡ recordIn (v .pdus ++ (writtenForm d ∷ [])) (length (v .pdus))
     stored-record = new-record ∙ ap (recordFor (length (v .pdus))) (sym (new-pdu (v .pdus) (writtenForm d)))
 
     offer-carried : (i : ℕ) → i < length (v .pdus ++ (writtenForm d ∷ [])) → Carried (getD (v .pdus ++ (writtenForm d ∷ [])) i [])
@@ -192,56 +205,43 @@ module _ {station : Station} {near : Near} {store : List ℕ} {far : Far} {v : S
     offer-recorded :
         (i : ℕ)
         → i < length (v .pdus ++ (writtenForm d ∷ []))
-        → List·Memᴰ (recordIn (v .pdus ++ (writtenForm d ∷ [])) i) (v .records ++ (offerRecord near d ∷ []))
+        → List·Memᴰ (recordIn (v .pdus ++ (writtenForm d ∷ [])) i) (v .records ++ (offerRecord (near .accepted) d ∷ []))
     offer-recorded =
         each-more (v .pdus) (writtenForm d) (λ (i : ℕ). There i (recordIn (v .pdus ++ (writtenForm d ∷ [])) i))
         (λ i l.
         subst (λ (q : List ℕ). There i (recordFor i q)) (sym (old-pdu (v .pdus) (writtenForm d) i l))
-        (Memᴰ·append-left (offerRecord near d ∷ []) (h .recorded i l)))
+        (Memᴰ·append-left (offerRecord (near .accepted) d ∷ []) (h .recorded i l)))
         (Memᴰ·append-right (v .records) (List·Memᴰ·head (sym stored-record)))
       where
         There : ℕ → List ℕ → Type 0
-        There i r = List·Memᴰ r (v .records ++ (offerRecord near d ∷ []))
+        There i r = List·Memᴰ r (v .records ++ (offerRecord (near .accepted) d ∷ []))
 
     offer-stored :
         (i : ℕ)
         → i < length (v .pdus ++ (writtenForm d ∷ []))
         → v .confirmed ≤ i
-        → RowHolds (stored near store d) i (recordIn (v .pdus ++ (writtenForm d ∷ [])) i)
+        → RowHolds (stored (near .accepted) store d) i (recordIn (v .pdus ++ (writtenForm d ∷ [])) i)
     offer-stored = each-more (v .pdus) (writtenForm d) (λ (i : ℕ). v .confirmed ≤ i → Row i (recordIn (v .pdus ++ (writtenForm d ∷ [])) i)) old new
       where
         Row : ℕ → List ℕ → Type 0
-        Row i r = RowHolds (stored near store d) i r
+        Row i r = RowHolds (stored (near .accepted) store d) i r
 
         old : (i : ℕ) → i < length (v .pdus) → v .confirmed ≤ i → Row i (recordIn (v .pdus ++ (writtenForm d ∷ [])) i)
         old i l held =
             let before : i < near .accepted = omega (arith, h .counts .near-accepted) in
             let apart = rows-differ i (near .accepted) before (omega (arith, h .counts .near-acknowledged, m .free)) in
             subst (λ (q : List ℕ). Row i (recordFor i q)) (sym (old-pdu (v .pdus) (writtenForm d) i l))
-            (row-kept store i (near .accepted) (offerRecord near d) (recordIn (v .pdus) i) (m .whole) new-fits (record-fits i l) apart
+            (row-kept store i (near .accepted) (offerRecord (near .accepted) d) (recordIn (v .pdus) i) (m .whole) new-fits (record-fits i l) apart
             (h .held .stored i held l))
 
         new : v .confirmed ≤ length (v .pdus) → Row (length (v .pdus)) (recordIn (v .pdus ++ (writtenForm d ∷ [])) (length (v .pdus)))
         new held =
             subst₂ Row (h .counts .near-accepted) stored-record
-            (row-written store (near .accepted) (offerRecord near d) (m .whole) new-fits)
+            (row-written store (near .accepted) (offerRecord (near .accepted) d) (m .whole) new-fits)
 
-    -- what it wrote, under its own number
-    pub offer-record : offerRecord near d ≡ recordIn (v .pdus ++ (writtenForm d ∷ [])) (near .accepted)
-    offer-record = stored-record ∙ ap (recordIn (v .pdus ++ (writtenForm d ∷ []))) (sym (h .counts .near-accepted))
-
-    -- and so its row, to the length of its kind
-    pub offer-row : plainRow (stored near store d) (near .accepted) ≡ recordIn (v .pdus ++ (writtenForm d ∷ [])) (near .accepted)
-    offer-row =
-        let all : List (List ℕ) = v .pdus ++ (writtenForm d ∷ []) in
-        let same : near .accepted ≡ length (v .pdus) = h .counts .near-accepted in
-        let written = row-written store (near .accepted) (offerRecord near d) (m .whole) new-fits in
-        row-record (stored near store d) (near .accepted) (getD all (near .accepted) [])
-        (offer-carried (near .accepted) (omega (arith, same, longer (v .pdus) (writtenForm d))))
-        (omega (arith, same, room))
-        (subst (RowHolds (stored near store d) (near .accepted)) offer-record written)
-
-    pub offer-keeps : Holds station (oneAccepted near) (stored near store d) far (accepting v (writtenForm d) (offerRecord near d))
+    offer-keeps :
+        Holds station (moreAccepted near 1) (stored (near .accepted) store d) far
+        (accepting v (writtenForm d ∷ []) (offerRecord (near .accepted) d ∷ []))
     offer-keeps =
         let c = h .counts in
         let one-more = longer (v .pdus) (writtenForm d) in
@@ -259,17 +259,30 @@ module _ {station : Station} {near : Near} {store : List ℕ} {far : Far} {v : S
           held =
               record {
                 carried = offer-carried;
-                whole = λ l. length-sets store (rowStart (near .accepted)) (offerRecord near d) ∙ m .whole;
+                whole = λ l. length-sets store (rowStart (near .accepted)) (offerRecord (near .accepted) d) ∙ m .whole;
                 stored = λ i held l. offer-stored i l held;
               };
           known =
-              known-also (v .pdus ++ (writtenForm d ∷ [])) (v .records) (length (v .out)) (offerRecord near d)
+              known-also (v .pdus ++ (writtenForm d ∷ [])) (v .records) (length (v .out)) (offerRecord (near .accepted) d)
               (λ r w. known-more (v .pdus) (length (v .out)) (writtenForm d) r (h .known r w))
               (pdu-record (length (v .pdus)) (omega (arith, one-more)) stored-record);
           recorded = offer-recorded;
           in-order = h .in-order ∙ sym (take-append-le (length (v .out)) (v .pdus) (writtenForm d ∷ []) (c .put-out-accepted));
           played = h .played;
         }
+
+    -- and what it writes is the record of its number
+    pub one-keeps :
+        Holds station (moreAccepted near 1) (stored (near .accepted) store d) far
+        (accepting v (writtenForm d ∷ []) (recordFor (near .accepted) (writtenForm d) ∷ []))
+    one-keeps =
+        subst (λ (r : List ℕ). Holds station (moreAccepted near 1) (stored (near .accepted) store d) far (accepting v (writtenForm d ∷ []) (r ∷ [])))
+        (new-record ∙ ap (λ (n : ℕ). recordFor n (writtenForm d)) (sym (h .counts .near-accepted)))
+        offer-keeps
+
+  -- the row of a PDU that is held, to the length of its kind, is its record
+  pub held-row : (i : ℕ) → v .confirmed ≤ i → i < length (v .pdus) → plainRow store i ≡ recordIn (v .pdus) i
+  held-row i held l = row-record store i (getD (v .pdus) i []) (h .held .carried i l) (small i l) (h .held .stored i held l)
 
   -- ---- a send
 
@@ -414,3 +427,92 @@ module _ {station : Station} {near : Near} {store : List ℕ} {far : Far} {v : S
   unfolding ticked
   clock-keeps t =
       record { counts = h .counts; held = h .held; known = h .known; recorded = h .recorded; in-order = h .in-order; played = station-next (time t) }
+
+-- ---- a bundle
+
+-- so many more accepted, one by one
+more-none : (near : Near) → moreAccepted near 0 ≡ near
+more-none near =
+    let same : near .accepted + 0 ≡ near .accepted = omega arith in
+    ap (λ (n : ℕ). record { accepted = n; acknowledged = near .acknowledged }) same
+
+more-next : (near : Near) (n : ℕ) → moreAccepted (moreAccepted near 1) n ≡ moreAccepted near (suc n)
+more-next near n =
+    let same : near .accepted + 1 + n ≡ near .accepted + suc n = omega arith in
+    ap (λ (m : ℕ). record { accepted = m; acknowledged = near .acknowledged }) same
+
+-- each PDU of a bundle keeps the invariant in turn
+pub bundle-keeps :
+    {station : Station} {near : Near} {store : List ℕ} {far : Far} {v : Seen}
+    → Holds station near store far v
+    → (ps : List (List ℕ))
+    → AllBytes ps
+    → AllPdus ps
+    → length store ≡ storeSize
+    → near .accepted + length ps ≤ lastNumber
+    → near .accepted + length ps ≤ near .acknowledged + rows
+    → Holds station (moreAccepted near (length ps)) (storedAll (near .accepted) store ps) far
+    (accepting v (map writtenForm ps) (recordsFrom (near .accepted) (map writtenForm ps)))
+unfolding storedAll
+bundle-keeps {station} {near} {store} {far} {v} h [] bytes all whole numbers free =
+    subst₂ (λ (n : Near) (s : Seen). Holds station n store far s) (sym (more-none near)) (sym (accepts-none v)) h
+bundle-keeps {station} {near} {store} {far} {v} h (p ∷ ps) (b, bytes) (one, all) whole numbers free =
+    let kind = eqb-false _ _ (type-says p (one .taken) .1 (one .carried)) in
+    let fits : OneFits near store = record { whole = whole; more = omega arith; free = omega arith } in
+    let full = length-sets store (rowStart (near .accepted)) (offerRecord (near .accepted) p) ∙ whole in
+    let qs : List (List ℕ) = map writtenForm ps in
+    let rs : List (List ℕ) = recordsFrom (near .accepted + 1) qs in
+    let rest = bundle-keeps (one-keeps h p b kind fits) ps bytes all full (omega arith) (omega arith) in
+    subst₂ (λ (n : Near) (s : Seen). Holds station n (storedAll (near .accepted + 1) (stored (near .accepted) store p) ps) far s)
+    (more-next near (length ps))
+    (accepts-next v (writtenForm p) (recordFor (near .accepted) (writtenForm p)) qs rs)
+    rest
+
+-- rows from a number on that hold the records of what was accepted last are these records
+rows-are :
+    (store : List ℕ) (i : ℕ) (before ps : List (List ℕ))
+    → i ≡ length before
+    → ((j : ℕ) → i ≤ j → j < i + length ps → plainRow store j ≡ recordIn (before ++ ps) j)
+    → rowsFrom store i (length ps) ≡ recordsFrom i ps
+rows-are store i before [] same each = refl
+rows-are store i before (p ∷ ps) same each =
+    ap₂ _∷_ row (rows-are store (i + 1) (before ++ (p ∷ [])) ps (ap (λ (n : ℕ). n + 1) same ∙ sym (longer before p)) rest)
+  where
+    row : plainRow store i ≡ recordFor i p
+    row =
+        each i (omega arith) (omega arith)
+        ∙ ap (λ (n : ℕ). recordFor i (getD (before ++ (p ∷ ps)) n [])) same
+        ∙ ap (recordFor i) (getD-append-seam before p ps [])
+
+    rest : (j : ℕ) → i + 1 ≤ j → j < i + 1 + length ps → plainRow store j ≡ recordIn (before ++ (p ∷ []) ++ ps) j
+    rest j low high =
+        each j (omega arith) (omega arith) ∙ ap (λ (l : List (List ℕ)). recordIn l j) (sym (append-assoc before (p ∷ []) ps))
+
+-- after a bundle
+module _
+    {station : Station} {near : Near} {store store′ : List ℕ} {far : Far} {v : Seen}
+    (h : Holds station near store far v)
+    (ps : List (List ℕ))
+    (kept :
+    Holds station (moreAccepted near (length ps)) store′ far
+    (accepting v (map writtenForm ps) (recordsFrom (near .accepted) (map writtenForm ps)))) where
+  many : length (map writtenForm ps) ≡ length ps
+  many = length-map ps writtenForm
+
+  -- the row of each of its numbers, to the length of its kind, is that PDU's record
+  pub bundle-row :
+      (j : ℕ)
+      → near .accepted ≤ j
+      → j < near .accepted + length ps
+      → plainRow store′ j ≡ recordIn (v .pdus ++ map writtenForm ps) j
+  bundle-row j low high =
+      let c = h .counts in
+      held-row kept j
+      (omega (arith, c .near-accepted, c .acknowledged-put-out, c .put-out-accepted))
+      (omega (arith, c .near-accepted, length-append (v .pdus) (map writtenForm ps), many))
+
+  pub bundle-rows : rowsFrom store′ (near .accepted) (length ps) ≡ recordsFrom (near .accepted) (map writtenForm ps)
+  bundle-rows =
+      ap (rowsFrom store′ (near .accepted)) (sym many)
+      ∙ rows-are store′ (near .accepted) (v .pdus) (map writtenForm ps) (h .counts .near-accepted)
+      (λ j low high. bundle-row j low (omega (arith, many)))

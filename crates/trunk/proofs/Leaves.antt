@@ -1,12 +1,12 @@
 -- What each call leaves (`offer-leaves`, `send-leaves`, `reply-leaves`, `arrive-leaves`, `tick-leaves`, `fresh`), in plain numbers, where all its
 -- plain rules hold. By the outcome of each call, and by what a record and a row are in plain numbers.
 -- Assumes nothing.
-use Prim.Native.Nat.{ℕ, _+_, _≤_}
-use mathlib.Core.Path.{_≡_, refl, ap, ap₂, _∙_}
+use Prim.Native.Nat.{ℕ, _+_}
+use mathlib.Core.Path.{_≡_, refl, sym, ap, ap₂, subst, subst₂, _∙_}
 use mathlib.Core.Logic.{_≢_}
-use mathlib.Core.List.{List, _++_}
+use mathlib.Core.List.{List, [], _∷_, _++_}
 use lib.ListN.{length, take, drop}
-use lib.Seq.{sets-eq}
+use lib.Seq.{length-sets, sets-eq}
 use native.Mathlib.Omega.{arith}
 use borrow.Author.Tests.{eqb-false}
 use Rattle.wire.specs.Bytes.{num, Bytes}
@@ -15,13 +15,15 @@ use Rattle.pdu.specs.Reading.{reading}
 use Rattle.pdu.specs.Writing.{writtenForm, paddingZero}
 use Rattle.pdu.proofs.RoundTrip.{written-form-back}
 use Rattle.station.specs.declared.Settings.{Settings}
-use Rattle.trunk.specs.Kinds.{kindOf, noKind, longestRecord}
+use Rattle.trunk.specs.Kinds.{kindOf, noKind}
 use Rattle.trunk.specs.Head.{headSize}
 use Rattle.trunk.specs.Record.{headFor, replyOf}
-use Rattle.trunk.specs.Near.{storeSize, rowStart, rowKind, freshNear, offerRecord, offered, storeAfter, sent, sentOut, replied}
+use Rattle.trunk.specs.Bundle.{bundleStop, bundle}
+use Rattle.trunk.specs.Near.{storeSize, rowStart, rowKind, freshNear, offerRecord, stored, storedAll, offered, storeAfter, sent, sentOut}
+use Rattle.trunk.specs.Near.{replied}
 use Rattle.trunk.specs.Far.{madeFar, arrived, replyAfter, outputAfter, ticked}
-use Rattle.trunk.specs.Plain.{plainKind, recordWith, replyWith, plainOffer, plainSend, plainReply, plainArrival}
-use Rattle.trunk.specs.Leaves.{overwritten, Fresh, OfferLeaves, SendLeaves, ReplyLeaves, ArriveLeaves, TickLeaves}
+use Rattle.trunk.specs.Plain.{plainKind, recordWith, replyWith, OnePdu, AllPdus, Walked, plainOffer, plainSend, plainReply, plainArrival}
+use Rattle.trunk.specs.Leaves.{overwritten, rowsWritten, Fresh, OfferLeaves, SendLeaves, ReplyLeaves, ArriveLeaves, TickLeaves}
 use Rattle.trunk.specs.declared.Near.{Near}
 use Rattle.trunk.specs.declared.Far.{Far}
 use Rattle.trunk.specs.declared.Offered.{Offered}
@@ -31,7 +33,8 @@ use Rattle.trunk.specs.declared.Arrived.{Arrived}
 use Rattle.trunk.proofs.KindLaws.{plain-length}
 use Rattle.trunk.proofs.RecordLaws.{carried-kind, type-says, plain-kind, record-plain, reply-plain}
 use Rattle.trunk.proofs.WriteLaws.{record-short}
-use Rattle.trunk.proofs.RuleLaws.{OfferMet, offer-verdict, offer-met, send-verdict, reply-verdict, arrival-verdict}
+use Rattle.trunk.proofs.BundleLaws.{walked, AsDefined, walked-only}
+use Rattle.trunk.proofs.RuleLaws.{offer-verdict, offer-met, send-verdict, reply-verdict, arrival-verdict}
 use Rattle.trunk.proofs.CallLaws.{after-is-max, OfferOutcome, offer-refused, offer-taken, offer-outcome, SendOutcome, send-refused}
 use Rattle.trunk.proofs.CallLaws.{send-taken, send-outcome, ReplyOutcome, reply-refused, reply-taken, reply-outcome, ArrivalOutcome}
 use Rattle.trunk.proofs.CallLaws.{arrival-refused, arrival-delivered, arrival-repeat, arrival-early, arrival-outcome}
@@ -43,38 +46,59 @@ fresh settings = record { accepted = refl; acknowledged = refl; count = refl; st
 
 -- ---- offering
 
-module _ (near : Near) (store d : List ℕ) (m : OfferMet near store d) where
-  carried : kindOf (reading d) ≢ noKind
-  carried = eqb-false _ _ (type-says d (m .taken) .1 (m .typed))
+module _ (number : ℕ) (p : List ℕ) (one : OnePdu p) where
+  carried : kindOf (reading p) ≢ noKind
+  carried = eqb-false _ _ (type-says p (one .taken) .1 (one .carried))
 
-  -- what an offer writes is kind, number, and the datagram with padding zero
-  plain-offer : offerRecord near d ≡ recordWith (plainKind (reading d)) (near .accepted) (paddingZero d)
+  -- what is written of a PDU is kind, number, and its bytes with padding zero
+  plain-offer : offerRecord number p ≡ recordWith (plainKind (reading p)) number (paddingZero p)
   plain-offer =
-      record-plain (kindOf (reading d)) (near .accepted) (writtenForm d) (carried-kind d carried .byte)
-      ∙ ap₂ (λ (k : ℕ) (p : List ℕ). recordWith k (near .accepted) p) (plain-kind d carried) (written-form-back d (m .taken))
+      record-plain (kindOf (reading p)) number (writtenForm p) (carried-kind p carried .byte)
+      ∙ ap₂ (λ (k : ℕ) (w : List ℕ). recordWith k number w) (plain-kind p carried) (written-form-back p (one .taken))
+
+  plain-row :
+      (store : List ℕ)
+      → length store ≡ storeSize
+      → stored number store p ≡ overwritten (rowStart number) (recordWith (plainKind (reading p)) number (paddingZero p)) store
+  plain-row store whole =
+      let short = record-short (headFor (kindOf (reading p)) number) p carried in
+      sets-eq (offerRecord number p) store (rowStart number) (omega (arith, short))
+      ∙ ap (λ (r : List ℕ). overwritten (rowStart number) r store) plain-offer
+
+-- one row behind the other
+plain-rows :
+    (ps : List (List ℕ)) (number : ℕ) (store : List ℕ)
+    → AllPdus ps
+    → length store ≡ storeSize
+    → storedAll number store ps ≡ rowsWritten number ps store
+unfolding storedAll
+plain-rows [] number store all whole = refl
+plain-rows (p ∷ ps) number store (one, all) whole =
+    plain-rows ps (number + 1) (stored number store p) all (length-sets store (rowStart number) (offerRecord number p) ∙ whole)
+    ∙ ap (rowsWritten (number + 1) ps) (plain-row number p one store whole)
 
 pub offer-leaves :
-    (near : Near) (store d : List ℕ)
-    → Met (plainOffer near store d)
-    → OfferLeaves near store d (offered near store d .near) (storeAfter near store d)
-offer-leaves near store d met = by (offer-outcome near store d)
+    (near : Near) (store d : List ℕ) (pdus : List (List ℕ)) (left : List ℕ)
+    → Walked d pdus left 0
+    → Met (plainOffer near store 0 (length pdus))
+    → OfferLeaves near store pdus (offered near store d .near) (storeAfter near store d)
+offer-leaves near store d pdus left w met =
+    subst (λ (ps : List (List ℕ)). OfferLeaves near store ps (offered near store d .near) (storeAfter near store d)) (sym (same .pdus))
+    (by (offer-outcome near store d))
   where
-    m : OfferMet near store d
-    m = offer-met near store d met
+    same : AsDefined d pdus 0
+    same = walked-only d pdus left 0 w
 
-    short : length (offerRecord near d) ≤ longestRecord
-    short = record-short (headFor (kindOf (reading d)) (near .accepted)) d (carried near store d m)
+    all-met : Met (plainOffer near store (bundleStop d) (length (bundle d)))
+    all-met = subst₂ (λ (n : ℕ) (ps : List (List ℕ)). Met (plainOffer near store n (length ps))) (same .stop) (same .pdus) met
 
-    by : {o : Offered} {s : List ℕ} → OfferOutcome near store d o s → OfferLeaves near store d (o .near) s
-    by (offer-refused n f) = absurd (clash (plainOffer near store d) (offer-verdict near store d) n f met)
+    by : {o : Offered} {s : List ℕ} → OfferOutcome near store d o s → OfferLeaves near store (bundle d) (o .near) s
+    by (offer-refused n f) = absurd (clash _ (offer-verdict near store (bundleStop d) (length (bundle d))) n f all-met)
     by (offer-taken x) =
-        let whole : length store ≡ storeSize = m .whole in
         record {
           accepted = refl;
           acknowledged = refl;
-          store-is =
-              sets-eq (offerRecord near d) store (rowStart (near .accepted)) (omega (arith, short))
-              ∙ ap (λ (r : List ℕ). overwritten (rowStart (near .accepted)) r store) (plain-offer near store d m);
+          store-is = plain-rows (bundle d) (near .accepted) store (walked d .1 .each) (offer-met near store _ _ all-met .whole);
         }
 
 -- ---- sending

@@ -1,6 +1,8 @@
 -- Laws and theorems of the trunk that belong to no one function.
 pub mod KindLaws
 pub mod RecordLaws
+pub mod BundleLaws
+pub mod WalkLaws
 pub mod WriteLaws
 pub mod EndLaws
 pub mod RuleLaws

@@ -1,9 +1,9 @@
--- What a log says, as one record of what demand 3 speaks of (`seen`); and what an entry adds to it, where that is nothing, a PDU accepted, a
+-- What a log says, as one record of what demand 3 speaks of (`seen`); and what an entry adds to it, where that is nothing, PDUs accepted, a
 -- record written, a PDU put out, or a clock call. The station after one more call, and its answers, follow from those before.
 -- Assumes nothing.
 use Prim.Native.Nat.{ℕ}
 use mathlib.Core.Path.{_≡_, refl, ap}
-use mathlib.Core.List.{List, [], _∷_, _++_, append-nil}
+use mathlib.Core.List.{List, [], _∷_, _++_, append-nil, append-assoc}
 use Rattle.station.specs.Runs.{Call as StationCall, called, after, answers}
 use Rattle.station.specs.declared.Station.{Station}
 use Rattle.trunk.specs.Line.{Entry, accepted, putOut, acknowledged, written, events, stationSaid}
@@ -41,14 +41,14 @@ more v p o r c s =
     }
 
 module _ (v : Seen) where
-  -- a PDU accepted, with its record written
-  abbrev pub accepting : List ℕ → List ℕ → Seen
-  accepting p r =
+  -- PDUs accepted, with their records written
+  abbrev pub accepting : List (List ℕ) → List (List ℕ) → Seen
+  accepting ps rs =
       record {
-        pdus = v .pdus ++ (p ∷ []);
+        pdus = v .pdus ++ ps;
         out = v .out;
         confirmed = v .confirmed;
-        records = v .records ++ (r ∷ []);
+        records = v .records ++ rs;
         calls = v .calls;
         said = v .said;
       }
@@ -132,8 +132,20 @@ module _ (v : Seen) where
   pub adds-nothing : more v [] [] [] [] [] ≡ v
   adds-nothing = adds [] [] [] [] [] no-pdu no-out refl no-record no-call no-answer
 
-  pub adds-accepted : (p r : List ℕ) → more v (p ∷ []) [] (r ∷ []) [] [] ≡ accepting p r
-  adds-accepted p r = adds (p ∷ []) [] (r ∷ []) [] [] refl no-out refl refl no-call no-answer
+  pub adds-accepted : (ps rs : List (List ℕ)) → more v ps [] rs [] [] ≡ accepting ps rs
+  adds-accepted ps rs = adds ps [] rs [] [] refl no-out refl refl no-call no-answer
+
+  -- none accepted
+  pub accepts-none : accepting [] [] ≡ v
+  accepts-none i =
+      record {
+        pdus = no-pdu i;
+        out = v .out;
+        confirmed = v .confirmed;
+        records = no-record i;
+        calls = v .calls;
+        said = v .said;
+      }
 
   pub adds-written : (r : List ℕ) → more v [] [] (r ∷ []) [] [] ≡ writing r
   adds-written r = adds [] [] (r ∷ []) [] [] no-pdu no-out refl refl no-call no-answer
@@ -143,6 +155,20 @@ module _ (v : Seen) where
 
   pub adds-timed : (c : StationCall) (n : ℕ) → more v [] [] [] (c ∷ []) (n ∷ []) ≡ timing c n
   adds-timed c n = adds [] [] [] (c ∷ []) (n ∷ []) no-pdu no-out refl no-record refl refl
+
+-- PDUs accepted one behind the other
+pub accepts-next :
+    (v : Seen) (p r : List ℕ) (ps rs : List (List ℕ))
+    → accepting (accepting v (p ∷ []) (r ∷ [])) ps rs ≡ accepting v (p ∷ ps) (r ∷ rs)
+accepts-next v p r ps rs i =
+    record {
+      pdus = append-assoc (v .pdus) (p ∷ []) ps i;
+      out = v .out;
+      confirmed = v .confirmed;
+      records = append-assoc (v .records) (r ∷ []) rs i;
+      calls = v .calls;
+      said = v .said;
+    }
 
 -- the station after one more call, and its answers
 pub after-more : (s : Station) (cs : List StationCall) (c : StationCall) → after s (cs ++ (c ∷ [])) ≡ called (after s cs) c .station

@@ -1,32 +1,31 @@
 -- Each call's tests say the same as the plain rules in their place, so its refusal number is 0 exactly where every rule holds, and is n exactly
 -- where n is the number of the first that does not. By the laws of tests and of rules in order.
 -- Assumes nothing.
-use Prim.Native.Nat.{ℕ, _-_, _≤_, _<_}
+use Prim.Native.Nat.{ℕ, _+_, _≤_, _<_}
 use mathlib.Core.Path.{_≡_, refl, sym, ap, _∙_}
 use mathlib.Core.Logic.{_↔_, _≢_, inl, inr, Iff·trans}
 use mathlib.Core.Bool.{Bool, true, false, not, true≢false}
 use mathlib.Core.List.{List, _∷_}
 use lib.ListN.{length}
-use lib.Dec.{eqb, leb}
+use lib.Dec.{eqb}
 use native.Mathlib.Omega.{arith}
-use borrow.Author.Tests.{le-ltb, not-true, eqb-false, ne-eqb, ltb-true, lt-ltb}
+use borrow.Author.Tests.{le-ltb, not-true, eqb-false, ne-eqb, ltb-true, ltb-false, lt-ltb}
 use Rattle.wire.specs.Bytes.{num, Bytes}
 use Rattle.wire.specs.First.{Refusal, _given-when_, first}
 use Rattle.wire.proofs.FitLaws.{bytes-drop}
 use Rattle.wire.specs.Rules.{Rule, _unless_, Met}
-use Rattle.wire.proofs.RuleLaws.{equal, at-most, below, not-below, negated, both, neither, if-so, done, _then_, verdict}
+use Rattle.wire.proofs.RuleLaws.{equal, at-most, not-below, negated, both, neither, if-so, done, _then_, verdict}
 use Rattle.wire.specs.Rules.{Verdict}
-use Rattle.pdu.specs.Reading.{refusal}
 use Rattle.trunk.specs.Head.{headSize}
 use Rattle.trunk.specs.Kinds.{longestPdu, replyKind}
 use Rattle.trunk.specs.Record.{kindIn, carriedIn, unknownKind, wrongSize, isReply, lastOfAll, wrongCarried, formRules, pduRules, checkRules}
-use Rattle.trunk.specs.Near.{rows, wrongStore, offerRulesOf, offerRules, isHeld, sendRules, replyRules}
+use Rattle.trunk.specs.Near.{wrongStore, noRows, offerRulesOf, isHeld, sendRules, replyRules}
 use Rattle.trunk.specs.Far.{noRoom, arrivalRules}
-use Rattle.trunk.specs.Plain.{StoreRule, NumberRule, WindowRule, RoomRule, ReplyKind, KindRule, LengthRule, CarriedRule, TypeRule}
+use Rattle.trunk.specs.Plain.{StoreRule, NumberRule, RoomRule, ReplyKind, KindRule, LengthRule, CarriedRule}
 use Rattle.trunk.specs.Plain.{plainOffer, plainSend, plainReply, plainArrival, plainCheck}
 use Rattle.trunk.specs.declared.Near.{Near}
 use Rattle.trunk.proofs.KindLaws.{known-says, reply-says, no-reply-says, plain-length}
-use Rattle.trunk.proofs.RecordLaws.{reader-number, type-says, carried-says, Sound, SoundReply}
+use Rattle.trunk.proofs.RecordLaws.{carried-says, Sound, SoundReply}
 
 -- ---- each test says the same as its plain rule
 
@@ -71,10 +70,16 @@ wrong-says r b h =
 held-says : (near : Near) (i : ℕ) → (not (isHeld near i) ≡ false) ↔ ((near .acknowledged ≤ i) × (i < near .accepted))
 held-says near i = negated _ (both _ _ (at-most _ _) (ltb-true _ _, lt-ltb _ _))
 
-window-says : (near : Near) → (leb rows (near .accepted - near .acknowledged) ≡ false) ↔ WindowRule near
-window-says near =
-    Iff·trans (below (near .accepted - near .acknowledged) rows)
-    (λ (h : near .accepted - near .acknowledged < rows). omega arith, λ h. omega arith)
+-- the rows that are free, for eight PDUs at most
+rows-say :
+    (near : Near) (pdus : ℕ)
+    → pdus ≤ 8
+    → (noRows near pdus ≡ false) ↔ (near .accepted + pdus ≤ near .acknowledged + 8)
+rows-say near pdus few = by (noRows near pdus) refl
+  where
+    by : (b : Bool) → noRows near pdus ≡ b → (b ≡ false) ↔ (near .accepted + pdus ≤ near .acknowledged + 8)
+    by true e = (λ z. absurd (true≢false z), λ free. absurd (omega (arith, ltb-true)))
+    by false e = (λ z. omega (arith, ltb-false), λ free. refl)
 
 room-says : (replyRoom room : ℕ) → (noRoom replyRoom room ≡ false) ↔ RoomRule replyRoom room
 room-says replyRoom room = neither _ _ (not-below _ _) (not-below _ _)
@@ -106,17 +111,18 @@ one-more {broken = false} z h v =
       );
     }
 
-pub offer-verdict : (near : Near) (store d : List ℕ) → Verdict (offerRules near store d) (plainOffer near store d)
+pub offer-verdict :
+    (near : Near) (store : List ℕ) (stop pdus : ℕ)
+    → Verdict (offerRulesOf near (length store) stop pdus) (plainOffer near store stop pdus)
 unfolding offerRulesOf
-offer-verdict near store d =
-    rw (reader-number d)
-    (one-more (λ b e. omega arith) (store-says store)
+offer-verdict near store stop pdus =
+    one-more (λ b e. omega arith) (store-says store)
     (λ whole. one-more (λ b. eqb-false _ _ (not-true _ b)) (negated _ (equal _ _))
-    (λ taken. verdict
-    (type-says d taken
-    then λ carried. differs _ _
-    then λ more. window-says near
-    then λ free. done))))
+    (λ none. verdict
+    (not-below _ _
+    then λ few. not-below _ _
+    then λ numbers. rows-say near pdus few
+    then λ free. done)))
 
 pub send-verdict : (near : Near) (store : List ℕ) (i room : ℕ) → Verdict (sendRules near store i room) (plainSend near store i room)
 unfolding sendRules
@@ -171,16 +177,16 @@ arrival-verdict r b replyRoom room =
 
 -- ---- what is known where all rules of a call are met
 
-pub record OfferMet (near : Near) (store d : List ℕ) : Type 0 where
+pub record OfferMet (near : Near) (store : List ℕ) (stop pdus : ℕ) : Type 0 where
   pub whole : StoreRule store
-  pub taken : refusal d ≡ 0
-  pub typed : TypeRule d
-  pub more : NumberRule (near .accepted)
-  pub free : WindowRule near
+  pub none : stop ≡ 0
+  pub few : pdus ≤ 8
+  pub numbers : near .accepted + pdus ≤ 4294967295
+  pub free : near .accepted + pdus ≤ near .acknowledged + 8
 
-pub offer-met : (near : Near) (store d : List ℕ) → Met (plainOffer near store d) → OfferMet near store d
-offer-met near store d (whole, (taken, (typed, (more, (free, _))))) =
-    record { whole = whole; taken = taken; typed = typed; more = more; free = free }
+pub offer-met : (near : Near) (store : List ℕ) (stop pdus : ℕ) → Met (plainOffer near store stop pdus) → OfferMet near store stop pdus
+offer-met near store stop pdus (whole, (none, (few, (numbers, (free, _))))) =
+    record { whole = whole; none = none; few = few; numbers = numbers; free = free }
 
 pub held-met : (near : Near) (store : List ℕ) (i room : ℕ) → Met (plainSend near store i room) → (near .acknowledged ≤ i) × (i < near .accepted)
 held-met near store i room (whole, (held, rest)) = held

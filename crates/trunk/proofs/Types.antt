@@ -1,8 +1,8 @@
--- Which message types an offer refuses, and by which number (02, R-4): the reader's 50 comes before 23, and what is read and not carried has type 6
--- or 7, since a Signal of a lower type is carried and one of type 3, 4 or 5 is not read.
+-- Which message types an offer refuses, and by which number (02, R-4): 50 is the reader's, and what is read and not carried has type 6 or 7, since a
+-- Signal of a lower type is carried and one of type 3, 4 or 5 is not read.
 -- Assumes nothing.
 use Prim.Native.Nat.{ℕ, _≤_}
-use mathlib.Core.Path.{_≡_, refl, sym, ap, _∙_}
+use mathlib.Core.Path.{_≡_, refl, sym, ap, subst, _∙_}
 use mathlib.Core.Logic.{_≢_, _⊎_, inl, inr}
 use mathlib.Core.Bool.{Bool, true, false}
 use mathlib.Core.List.{List}
@@ -12,14 +12,15 @@ use native.Mathlib.Omega.{arith}
 use Rattle.wire.specs.Rules.{FirstBroken}
 use Rattle.pdu.specs.Plain.{LiveRule}
 use Rattle.pdu.specs.Reading.{refusal, reading}
+use Rattle.pdu.specs.declared.Transmitter.{Transmitter}
 use Rattle.pdu.specs.declared.Signal.{Signal}
 use Rattle.pdu.specs.declared.Reading.{Reading}
-use Rattle.pdu.specs.declared.Reading.the-variants.{Refused as notRead, Signal as aSignal}
-use Rattle.pdu.proofs.Answers.{reads-as, refuses-as}
-use Rattle.pdu.proofs.ReadLaws.{taken-type}
+use Rattle.pdu.specs.declared.Reading.the-variants.{Signal as aSignal}
+use Rattle.pdu.proofs.Answers.{refuses-as}
+use Rattle.pdu.proofs.ReadLaws.{taken-type, refusal-apart}
 use Rattle.trunk.specs.Near.{offered}
-use Rattle.trunk.specs.Plain.{TypeRule, plainOffer}
-use Rattle.trunk.specs.Exactly.{TypesRefused}
+use Rattle.trunk.specs.Plain.{TypeRule, Ends, at-end, refused, not-carried, Walked, plainOffer}
+use Rattle.trunk.specs.Exactly.{NotCarried, TypesRefused}
 use Rattle.trunk.specs.declared.Near.{Near}
 use Rattle.trunk.proofs.ExactlyWhen.{offer-exactly-when}
 
@@ -42,26 +43,55 @@ two-left type high (three, four, five) low = by (eqb type 6) refl
         let six : type ≢ 6 = eqb-false _ _ e in
         inr (omega arith)
 
--- 23 is the first broken rule of an offer: its own
-not-carried : (near : Near) (store d : List ℕ) → refusal d ≡ 0 → FirstBroken 23 (plainOffer near store d) → TypeRule d → ⊥
-not-carried near store d read (inl (e, b)) typed = omega arith
-not-carried near store d read (inr (whole, inl (e, b))) typed = b read
-not-carried near store d read (inr (whole, inr (taken, inl (e, b)))) typed = b typed
-not-carried near store d read (inr (whole, inr (taken, inr (carried, inl (e, b))))) typed = omega arith
-not-carried near store d read (inr (whole, inr (taken, inr (carried, inr (number, inl (e, b)))))) typed = omega arith
-not-carried near store d read (inr (whole, inr (taken, inr (carried, inr (number, inr (window, none)))))) typed = none
+-- a slice that 23 stops: what is left begins with a Signal that is read and not carried, since the reader never gives 23
+not-carried-by : (d : List ℕ) (pdus : List (List ℕ)) (left : List ℕ) → Walked d pdus left 23 → NotCarried d
+not-carried-by d pdus left w = by (w .ends) refl
+  where
+    signal : refusal left ≡ 0 → ¬ TypeRule left → NotCarried d
+    signal read other = held (reading left) refl
+      where
+        held : (r : Reading) → reading left ≡ r → NotCarried d
+        held (Reading.Refused n) e = let h = refuses-as left n .0 e in absurd (h .1 (sym (h .0) ∙ read))
+        held (Reading.Transmitter t) e = absurd (other (λ s n f. absurd (unlike (reading left) t s n e f)))
+          where
+            unlike : (r : Reading) (t : Transmitter) (s : Signal) (n : ℕ) → r ≡ Reading.Transmitter t → r ≡ aSignal s n → ⊥
+            unlike r t s n p q = let z : _≡_ {A = ℕ} 0 1 = cc in omega arith
+        held (Reading.Signal s n) e =
+            let (known, live) = taken-type left s n e in
+            record {
+              pdus = pdus;
+              left = left;
+              walked = w;
+              fields = s;
+              size = n;
+              read = e;
+              type = two-left _ known live (λ low. other (carries left s n e low));
+            }
+
+    by : {n : ℕ} → Ends pdus left n → n ≡ 23 → NotCarried d
+    by (at-end some none) z = absurd (omega arith)
+    by (refused before h) z = absurd (refusal-apart left 23 (omega arith) (omega arith) z)
+    by (not-carried read other) z = signal read other
+
+-- 23 is the number of the first broken rule of an offer: what stops its slice
+stopped-by : (near : Near) (store : List ℕ) (stop pdus : ℕ) → FirstBroken 23 (plainOffer near store stop pdus) → stop ≡ 23
+stopped-by near store stop pdus (inl (e, b)) = absurd (omega arith)
+stopped-by near store stop pdus (inr (whole, inl (e, b))) = sym e
+stopped-by near store stop pdus (inr (whole, inr (none, inl (e, b)))) = absurd (omega arith)
+stopped-by near store stop pdus (inr (whole, inr (none, inr (few, inl (e, b))))) = absurd (omega arith)
+stopped-by near store stop pdus (inr (whole, inr (none, inr (few, inr (numbers, inl (e, b)))))) = absurd (omega arith)
+stopped-by near store stop pdus (inr (whole, inr (none, inr (few, inr (numbers, inr (free, end)))))) = absurd end
 
 pub types-refused : (near : Near) (store d : List ℕ) → TypesRefused store d (offered near store d .answer)
 types-refused near store d =
+    let exactly = offer-exactly-when near store d in
     record {
-      retired = λ whole e.
-          let fifty : refusal d ≡ 50 = refuses-as d 50 .0 e .0 in
-          offer-exactly-when near store d .refused 50 .1 (inr (whole, inl (sym fifty, λ none. apart (sym fifty ∙ none))));
-      left = λ s n e refused.
-          let (known, live) = taken-type d s n e in
-          let broken = offer-exactly-when near store d .refused 23 .0 refused in
-          let read = reads-as d (aSignal s n) tt e .0 in
-          two-left _ known live (λ low. not-carried near store d read broken (carries d s n e low));
+      retired = λ pdus left whole w.
+          let fifty : 50 ≡ exactly .stop = exactly .slice .only pdus left 50 w .2 in
+          exactly .answer .refused 50 .1 (inr (whole, inl (fifty, λ none. apart (fifty ∙ none))));
+      two-left = λ refused.
+          let stop = stopped-by near store _ _ (exactly .answer .refused 23 .0 refused) in
+          not-carried-by d _ _ (subst (Walked d (exactly .pdus) (exactly .slice .left)) stop (exactly .slice .walked));
     }
   where
     apart : _≢_ {A = ℕ} 50 0

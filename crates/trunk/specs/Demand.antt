@@ -7,6 +7,7 @@ use Rattle.pdu.specs.Writing.{paddingZero}
 use Rattle.station.specs.Runs.{after, answers}
 use Rattle.station.specs.declared.Station.{Station}
 use Rattle.trunk.specs.Plain.{recordFor, replyWith, plainRow}
+use Rattle.trunk.specs.Bundle.{bundle}
 use Rattle.trunk.specs.Far.{replyAfter}
 use Rattle.trunk.specs.Line.{Entry, offer-made, send-made, reply-heard, record-heard, clock-set, Call, to-near, to-far, Line, run, collect}
 use Rattle.trunk.specs.Line.{accepted, putOut, acknowledged, events, stationSaid, Fair}
@@ -22,10 +23,10 @@ pduAt log i = getD (accepted log) i []
 abbrev pub recordAt : List Entry → ℕ → List ℕ
 recordAt log i = recordFor i (pduAt log i)
 
--- the datagrams of the offers not refused, from number 0, as they were offered
+-- the PDUs of the offers not refused, from number 0, as they were offered
 abbrev pub givenBy : Entry → List (List ℕ)
 givenBy (offer-made d (offerRefused n) store) = []
-givenBy (offer-made d (Taken i) store) = d ∷ []
+givenBy (offer-made d (Taken i) store) = bundle d
 givenBy (send-made i a out) = []
 givenBy (reply-heard r a) = []
 givenBy (record-heard r a reply out) = []
@@ -45,12 +46,13 @@ handover l reply out =
     ∷ to-near (take 5 (replyAfter (l .far) (recordAt (l .log) (count (l .log))) reply (length out)))
     ∷ []
 
--- the numbers in an answer and in a written record are those of the log: an offer's number and the record in its row, a send's record and
--- size, a reply's count, a delivered PDU's size, and the count in each reply written, which is 32 and that count in 4 bytes
+-- the numbers in an answer and in a written record are those of the log: an offer's first number and the records in the rows of its PDUs, a send's
+-- record and size, a reply's count, a delivered PDU's size, and the count in each reply written, which is 32 and that count in 4 bytes
 abbrev pub Says : Entry → List Entry → Type 0
 Says (offer-made d (offerRefused n) store) log = Unit {0}
 Says (offer-made d (Taken i) store) log =
-    (i ≡ length (accepted log)) × (plainRow store i ≡ recordAt (offer-made d (Taken i) store ∷ log) i)
+    (i ≡ length (accepted log))
+    × ((j : ℕ) → i ≤ j → j < i + length (bundle d) → plainRow store j ≡ recordAt (offer-made d (Taken i) store ∷ log) j)
 Says (send-made i (sendRefused n) out) log = Unit {0}
 Says (send-made i (Size n) out) log =
     (i < length (accepted log)) × (take n out ≡ recordAt log i) × (n ≡ length (recordAt log i))
@@ -72,7 +74,7 @@ AllSay (e ∷ log) = Says e log × AllSay log
 pub record Demand3 (station : Station) (l : Line) : Type 0 where
   -- "what the far end put out is the first k PDUs accepted, each once, in order"
   pub in-order : putOut (l .log) ≡ take (count (l .log)) (accepted (l .log))
-  -- and each is the datagram that was offered, with padding zero
+  -- and each is the PDU that was offered, with padding zero
   pub padding-zero : putOut (l .log) ≡ take (count (l .log)) (map paddingZero (given (l .log)))
   -- "its station stands .. as a fresh one given those PDUs and clock calls": "fields .. and places .. are the same"
   pub station-stands : l .far .station ≡ after station (events (l .log))

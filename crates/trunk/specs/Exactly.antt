@@ -9,12 +9,12 @@ use Rattle.wire.specs.Bytes.{num}
 use Rattle.wire.specs.Rules.{Met, FirstBroken}
 use Rattle.pdu.specs.Reading.{reading}
 use Rattle.pdu.specs.declared.Signal.{Signal as SignalFields}
-use Rattle.pdu.specs.declared.Reading.the-variants.{Refused as notRead, Signal as aSignal}
+use Rattle.pdu.specs.declared.Reading.the-variants.{Signal as aSignal}
 use Rattle.station.specs.Hearing.{heard}
 use Rattle.trunk.specs.Record.{checkedSays, numberOfChecked, sizeOfChecked}
 use Rattle.trunk.specs.Near.{offerSays, sendSays, replySays}
 use Rattle.trunk.specs.Far.{arrivalSays}
-use Rattle.trunk.specs.Plain.{StoreRule, plainLength, plainRowKind, plainOffer, plainSend, plainReply, plainArrival, plainCheck}
+use Rattle.trunk.specs.Plain.{StoreRule, Walked, plainLength, plainRowKind, plainOffer, plainSend, plainReply, plainArrival, plainCheck}
 use Rattle.trunk.specs.declared.Checked.{Checked}
 use Rattle.trunk.specs.declared.Checked.the-variants.{Refused as checkRefused, Reply as aReply, Pdu}
 use Rattle.trunk.specs.declared.Near.{Near}
@@ -28,19 +28,39 @@ use Rattle.trunk.specs.declared.Reply.the-variants.{Refused as replyRefu
 use Rattle.trunk.specs.declared.Arrival.{Arrival}
 use Rattle.trunk.specs.declared.Arrival.the-variants.{Refused as arrivalRefused, Delivered, Repeat, Early}
 
--- "an offer, the number taken"
-pub record OfferExactly (near : Near) (store d : List ℕ) (a : Offer) : Type 0 where
-  pub refused : (n : ℕ) → (a ≡ offerRefused n) ↔ FirstBroken n (plainOffer near store d)
-  pub taken : (i : ℕ) → (a ≡ Taken i) ↔ (Met (plainOffer near store d) × (i ≡ near .accepted))
+-- "an offer, the number taken", by 02, R-5 "the first number taken": of a slice that `stop` stops behind so many PDUs
+pub record AnswerExactly (near : Near) (store : List ℕ) (stop pdus : ℕ) (a : Offer) : Type 0 where
+  pub refused : (n : ℕ) → (a ≡ offerRefused n) ↔ FirstBroken n (plainOffer near store stop pdus)
+  pub taken : (i : ℕ) → (a ≡ Taken i) ↔ (Met (plainOffer near store stop pdus) × (i ≡ near .accepted))
 
--- 02, R-4: "Near ends .. now pass on the reader's number", 50 for a retired message; of the types that are read, 23 is left for 6 and 7
+-- a slice has these PDUs from the front, and this number stops it, 0 for none; and so in one way only
+pub record SliceExactly (d : List ℕ) (pdus : List (List ℕ)) (stop : ℕ) : Type 0 where
+  pub left : List ℕ
+  pub walked : Walked d pdus left stop
+  pub only : (ps : List (List ℕ)) (l : List ℕ) (n : ℕ) → Walked d ps l n → (ps ≡ pdus) × (l ≡ left) × (n ≡ stop)
+
+-- and the answer about every slice is by its PDUs and what stops it
+pub record OfferExactly (near : Near) (store d : List ℕ) (a : Offer) : Type 0 where
+  pub pdus : List (List ℕ)
+  pub stop : ℕ
+  pub slice : SliceExactly d pdus stop
+  pub answer : AnswerExactly near store stop (length pdus) a
+
+-- what 23 stops in a slice: behind some PDUs a Signal of type 6 or 7
+pub record NotCarried (d : List ℕ) : Type 0 where
+  pub pdus : List (List ℕ)
+  pub left : List ℕ
+  pub walked : Walked d pdus left 23
+  pub fields : SignalFields
+  pub size : ℕ
+  pub read : reading left ≡ aSignal fields size
+  pub type : (fields .network .«message_type» ≡ 6) ⊎ (fields .network .«message_type» ≡ 7)
+
+-- 02, R-4: "Near ends .. now pass on the reader's number", 50 for a retired message, wherever in a bundle it stands; of the types that are read, 23 is
+-- left for 6 and 7
 pub record TypesRefused (store d : List ℕ) (a : Offer) : Type 0 where
-  pub retired : StoreRule store → reading d ≡ notRead 50 → a ≡ offerRefused 50
-  pub left :
-      (s : SignalFields) (n : ℕ)
-      → reading d ≡ aSignal s n
-      → a ≡ offerRefused 23
-      → (s .network .«message_type» ≡ 6) ⊎ (s .network .«message_type» ≡ 7)
+  pub retired : (pdus : List (List ℕ)) (left : List ℕ) → StoreRule store → Walked d pdus left 50 → a ≡ offerRefused 50
+  pub two-left : a ≡ offerRefused 23 → NotCarried d
 
 -- "a send, the size written"
 pub record SendExactly (near : Near) (store : List ℕ) (i room : ℕ) (a : Sent) : Type 0 where

@@ -38,14 +38,19 @@ pub record Fresh (near : Near) (settings : Settings) (made-far : MadeFar) : Type
   pub station : made-far .far .station ≡ made settings .station
   pub answer : made-far .answer ≡ made settings .answer
 
--- "Offering writes the record from the first byte of row (number mod 8)": kind, number, and the datagram with padding zero; all other bytes of the
--- store stay. "The PDU takes the accepted count as its number"
-pub record OfferLeaves (near : Near) (store d : List ℕ) (near′ : Near) (store′ : List ℕ) : Type 0 where
-  pub accepted : near′ .accepted ≡ near .accepted + 1
+-- "Offering writes the record from the first byte of row (number mod 8)": kind, number, and the PDU with padding zero, one PDU behind the other under
+-- the numbers from this one on; all other bytes of the store stay
+abbrev pub rowsWritten : ℕ → List (List ℕ) → List ℕ → List ℕ
+rowsWritten number [] store = store
+rowsWritten number (p ∷ ps) store =
+    rowsWritten (number + 1) ps
+    (overwritten (192 * (number % 8)) (recordWith (plainKind (reading p)) number (paddingZero p)) store)
+
+-- "The PDU takes the accepted count as its number", "of the PDUs inside bundles, one by one" (02, R-5)
+pub record OfferLeaves (near : Near) (store : List ℕ) (pdus : List (List ℕ)) (near′ : Near) (store′ : List ℕ) : Type 0 where
+  pub accepted : near′ .accepted ≡ near .accepted + length pdus
   pub acknowledged : near′ .acknowledged ≡ near .acknowledged
-  pub store-is :
-      store′
-      ≡ overwritten (192 * (near .accepted % 8)) (recordWith (plainKind (reading d)) (near .accepted) (paddingZero d)) store
+  pub store-is : store′ ≡ rowsWritten (near .accepted) pdus store
 
 -- "Sending number i writes its record (the row's bytes as they stand, to the length of their kind) from the start of a lent buffer"
 pub record SendLeaves (near : Near) (store : List ℕ) (i : ℕ) (out : List ℕ) (near′ : Near) (out′ : List ℕ) : Type 0 where

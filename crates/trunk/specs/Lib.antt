@@ -2,6 +2,7 @@
 pub mod Head
 pub mod Kinds
 pub mod Record
+pub mod Bundle
 pub mod Near
 pub mod Far
 pub mod Plain

@@ -1,13 +1,14 @@
 -- A list of calls on both ends of the line (01, "What demand 3 means"): each call gets the state that the last one left, and a log keeps each
 -- call with all that it gave back, last call first. What was accepted, written, put out and acknowledged are functions of the log.
-use Prim.Native.Nat.{ℕ, max}
-use mathlib.Core.List.{List, [], _∷_, _++_, List·Memᴰ}
+use Prim.Native.Nat.{ℕ, zero, suc, _+_, max}
+use mathlib.Core.List.{List, [], _∷_, _++_, List·Memᴰ, map}
 use lib.ListN.{length, take}
 use Rattle.wire.specs.Bytes.{num, Bytes}
 use Rattle.pdu.specs.Writing.{writtenForm}
 use Rattle.station.specs.Runs.{Call as StationCall, datagram, time}
 use Rattle.station.specs.declared.Settings.{Settings}
 use Rattle.trunk.specs.Plain.{plainRow}
+use Rattle.trunk.specs.Bundle.{bundle}
 use Rattle.trunk.specs.Near.{freshNear, offered, storeAfter, sent, sentOut, replied}
 use Rattle.trunk.specs.Far.{madeFar, arrived, replyAfter, outputAfter, ticked}
 use Rattle.trunk.specs.declared.Near.{Near}
@@ -113,10 +114,10 @@ abbrev pub collect : {A : Type 0} → (Entry → List A) → List Entry → List
 collect f [] = []
 collect f (e ∷ log) = collect f log ++ f e
 
--- "Accepted are the PDUs of the offers not refused, from number 0, as the writer gives them"
+-- "Accepted are the PDUs of the offers not refused, from number 0, as the writer gives them"; 02, R-5: "of the PDUs inside bundles, one by one"
 abbrev pub acceptedBy : Entry → List (List ℕ)
 acceptedBy (offer-made d (offerRefused n) store) = []
-acceptedBy (offer-made d (Taken i) store) = writtenForm d ∷ []
+acceptedBy (offer-made d (Taken i) store) = map writtenForm (bundle d)
 acceptedBy (send-made i a out) = []
 acceptedBy (reply-heard r a) = []
 acceptedBy (record-heard r a reply out) = []
@@ -139,10 +140,15 @@ putOutBy (clock-set t a) = []
 abbrev pub putOut : List Entry → List (List ℕ)
 putOut log = collect putOutBy log
 
--- the records that calls wrote: an offer's, as its row of the store has it; a send's, by the size answered; and an arrival's reply, 5 bytes
+-- the rows of so many numbers from this one on, each to the length of its kind
+abbrev pub rowsFrom : List ℕ → ℕ → ℕ → List (List ℕ)
+rowsFrom store i zero = []
+rowsFrom store i (suc n) = plainRow store i ∷ rowsFrom store (i + 1) n
+
+-- the records that calls wrote: an offer's, as their rows of the store have them; a send's, by the size answered; and an arrival's reply, 5 bytes
 abbrev pub writtenBy : Entry → List (List ℕ)
 writtenBy (offer-made d (offerRefused n) store) = []
-writtenBy (offer-made d (Taken i) store) = plainRow store i ∷ []
+writtenBy (offer-made d (Taken i) store) = rowsFrom store i (length (bundle d))
 writtenBy (send-made i (sendRefused n) out) = []
 writtenBy (send-made i (Size n) out) = take n out ∷ []
 writtenBy (reply-heard r a) = []

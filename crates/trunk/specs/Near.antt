@@ -7,11 +7,12 @@ use lib.ListN.{length, take, drop}
 use lib.Dec.{eqb, leb, ltb}
 use Rattle.wire.specs.Bytes.{splice}
 use Rattle.wire.specs.First.{Refusal, _given-when_, first, told}
-use Rattle.pdu.specs.Reading.{reading, numberOf}
+use Rattle.pdu.specs.Reading.{reading}
 use Rattle.pdu.specs.Writing.{writtenForm}
 use Rattle.trunk.specs.Head.{headAt}
-use Rattle.trunk.specs.Kinds.{kindOf, noKind, load, isUnknown, isNothing, recordSize}
+use Rattle.trunk.specs.Kinds.{kindOf, load, isUnknown, isNothing, recordSize}
 use Rattle.trunk.specs.Record.{headFor, recordOf, numberIn, lastNumber, isReply, formRules}
+use Rattle.trunk.specs.Bundle.{bundleStop, bundle}
 use Rattle.trunk.specs.declared.Near.{Near}
 use Rattle.trunk.specs.declared.Offer.{Offer}
 use Rattle.trunk.specs.declared.Offer.the-variants.{Refused as offerRefused, Taken}
@@ -47,46 +48,64 @@ wrongStore size = not (eqb size storeSize)
 
 -- ---- offering
 
--- 23, 25, 24, by the kind of what was read
+-- 51: "more than eight PDUs"
+abbrev pub mostPdus : ℕ
+mostPdus = 8
+
+-- "25 and 24 if not all fit": so many PDUs would take the last number, or more than the rows that are free
+abbrev pub noNumbers : Near → ℕ → Bool
+noNumbers near pdus = ltb lastNumber (near .accepted + pdus)
+
+abbrev pub noRows : Near → ℕ → Bool
+noRows near pdus = ltb rows ((near .accepted - near .acknowledged) + pdus)
+
+-- 51, 25, 24 for so many PDUs
 abbrev pub offerRest : Near → ℕ → List Refusal
-offerRest near kind =
-    (23 given-when eqb kind noKind)
-    ∷ (25 given-when eqb (near .accepted) lastNumber)
-    ∷ (24 given-when leb rows (near .accepted - near .acknowledged))
+offerRest near pdus =
+    (51 given-when ltb mostPdus pdus)
+    ∷ (25 given-when noNumbers near pdus)
+    ∷ (24 given-when noRows near pdus)
     ∷ []
 
--- "Order: 28, the reader's number, 23, 25, 24", by the store's length, the reader's number and that kind
+-- 02, R-5: "28; then the number of the first PDU .. that the reader refuses or 23 stops ..; 51 ..; 25 and 24", by the store's length, that number and
+-- how many PDUs there are
 unfoldable pub offerRulesOf : Near → ℕ → ℕ → ℕ → List Refusal
-offerRulesOf near size read kind =
-    (28 given-when wrongStore size) ∷ (read given-when not (eqb read 0)) ∷ offerRest near kind
+offerRulesOf near size stop pdus =
+    (28 given-when wrongStore size) ∷ (stop given-when not (eqb stop 0)) ∷ offerRest near pdus
 
 abbrev pub offerRules : Near → List ℕ → List ℕ → List Refusal
-offerRules near store d = offerRulesOf near (length store) (numberOf (reading d)) (kindOf (reading d))
+offerRules near store d = offerRulesOf near (length store) (bundleStop d) (length (bundle d))
 
--- the record that an offer of d writes: "The PDU takes the accepted count as its number"
-abbrev pub offerRecord : Near → List ℕ → List ℕ
-offerRecord near d = recordOf (headFor (kindOf (reading d)) (near .accepted)) (writtenForm d)
-
--- the near end with one more accepted
-abbrev pub oneAccepted : Near → Near
-oneAccepted near = record { accepted = near .accepted + 1; acknowledged = near .acknowledged }
+-- the record that an offer writes of a PDU under a number
+abbrev pub offerRecord : ℕ → List ℕ → List ℕ
+offerRecord number p = recordOf (headFor (kindOf (reading p)) number) (writtenForm p)
 
 -- the store with that record in its row: "Offering writes the record from the first byte of row (number mod 8)"
-abbrev pub stored : Near → List ℕ → List ℕ → List ℕ
-stored near store d = splice (rowStart (near .accepted)) (offerRecord near d) store
+abbrev pub stored : ℕ → List ℕ → List ℕ → List ℕ
+stored number store p = splice (rowStart number) (offerRecord number p) store
 
--- what an offer answers and leaves
+-- "a whole bundle .. in order": "The PDU takes the accepted count as its number", and those behind it the numbers that follow
+unfoldable pub storedAll : ℕ → List ℕ → List (List ℕ) → List ℕ
+storedAll number store [] = store
+storedAll number store (p ∷ ps) = storedAll (number + 1) (stored number store p) ps
+
+-- the near end with so many more accepted
+abbrev pub moreAccepted : Near → ℕ → Near
+moreAccepted near pdus = record { accepted = near .accepted + pdus; acknowledged = near .acknowledged }
+
+-- what an offer answers and leaves: "a whole bundle or nothing", and "the first number taken"
 unfoldable pub offered : Near → List ℕ → List ℕ → Offered
 offered near store d =
     cond (eqb (first (offerRules near store d)) 0)
-    (record { near = oneAccepted near; answer = Taken (near .accepted) })
+    (record { near = moreAccepted near (length (bundle d)); answer = Taken (near .accepted) })
     (record { near = near; answer = offerRefused (first (offerRules near store d)) })
 
 -- what an offer leaves in the store
 unfoldable pub storeAfter : Near → List ℕ → List ℕ → List ℕ
-storeAfter near store d = cond (eqb (first (offerRules near store d)) 0) (stored near store d) store
+storeAfter near store d =
+    cond (eqb (first (offerRules near store d)) 0) (storedAll (near .accepted) store (bundle d)) store
 
--- document 01's number and values of its answer: "an offer, the number taken"
+-- document 01's number and values of its answer: "an offer, the number taken", by 02, R-5 the first
 abbrev pub offerSays : Offer → List ℕ
 offerSays (offerRefused n) = n ∷ []
 offerSays (Taken i) = 0 ∷ i ∷ []

@@ -92,13 +92,9 @@ plainRow store i = take (plainLength (plainRowKind store i)) (drop (192 * (i % 8
 abbrev pub StoreRule : List ℕ → Type 0
 StoreRule store = length store ≡ 1536
 
--- 25: "4,294,967,295 PDUs accepted already, or a PDU record with that number"
+-- 25: "a PDU record with that number"
 abbrev pub NumberRule : ℕ → Type 0
 NumberRule number = number ≢ 4294967295
-
--- 24: "eight PDUs unacknowledged"
-abbrev pub WindowRule : Near → Type 0
-WindowRule near = near .accepted < near .acknowledged + 8
 
 -- 16 at the far end: "if the reply buffer is under 5 bytes or the output under 180"
 abbrev pub RoomRule : ℕ → ℕ → Type 0
@@ -116,7 +112,7 @@ KindRule r = 0 < length r → KnownKind (num 1 0 r)
 abbrev pub LengthRule : List ℕ → Type 0
 LengthRule r = (0 < length r) × (length r ≡ plainLength (num 1 0 r))
 
--- 22: "carried bytes are not what the writer would give, or not a PDU of that kind"
+-- 22: "carried bytes are not what the writer would give, or not a PDU of that kind"; the writer gives one PDU, so nothing stands behind it
 abbrev pub CarriedRule : List ℕ → Type 0
 CarriedRule r =
     (refusal (drop 5 r) ≡ 0)
@@ -127,16 +123,47 @@ CarriedRule r =
 abbrev pub TypeRule : List ℕ → Type 0
 TypeRule d = (s : SignalFields) (n : ℕ) → reading d ≡ aSignal s n → s .network .«message_type» ≤ 2
 
+-- ---- bundles (02, R-5)
+
+-- one PDU alone: the reader takes it, 23 does not stop it, and its length field counts all its bytes
+pub record OnePdu (p : List ℕ) : Type 0 where
+  pub taken : refusal p ≡ 0
+  pub carried : TypeRule p
+  pub whole : num 2 8 p ≡ length p
+
+abbrev pub AllPdus : List (List ℕ) → Type 0
+AllPdus [] = Unit {0}
+AllPdus (p ∷ ps) = OnePdu p × AllPdus ps
+
+-- end to end
+abbrev pub joined : List (List ℕ) → List ℕ
+joined [] = []
+joined (p ∷ ps) = p ++ joined ps
+
+-- what stops a slice behind PDUs: nothing, where it ends behind one; or the reader refuses what is left, which is empty only if the whole slice is
+-- ("an empty slice is 1"); or what is left begins with a PDU of a type that is not carried
+pub data Ends (pdus : List (List ℕ)) (left : List ℕ) : ℕ → Type 0 where
+  at-end : 0 < length pdus → length left ≡ 0 → Ends pdus left 0
+  refused : (0 < length pdus → 0 < length left) → refusal left ≢ 0 → Ends pdus left (refusal left)
+  not-carried : refusal left ≡ 0 → ¬ TypeRule left → Ends pdus left 23
+
+-- a slice from the front: so many PDUs, what is left behind them, and the number that stops it there, or 0
+pub record Walked (d : List ℕ) (pdus : List (List ℕ)) (left : List ℕ) (stop : ℕ) : Type 0 where
+  pub parts : d ≡ joined pdus ++ left
+  pub each : AllPdus pdus
+  pub ends : Ends pdus left stop
+
 -- ---- the calls
 
--- Offering: 28, the reader's number, 23, 25, 24
-abbrev pub plainOffer : Near → List ℕ → List ℕ → List Rule
-plainOffer near store d =
+-- Offering a slice that `stop` stops behind so many PDUs: 28, that number, 51, 25, 24 (02, R-5: "51 for more than eight PDUs; 25 and 24 if not all
+-- fit": no number is 4,294,967,295, and eight PDUs are unacknowledged at most)
+abbrev pub plainOffer : Near → List ℕ → ℕ → ℕ → List Rule
+plainOffer near store stop pdus =
     (28 unless StoreRule store)
-    ∷ (refusal d unless (refusal d ≡ 0))
-    ∷ (23 unless TypeRule d)
-    ∷ (25 unless NumberRule (near .accepted))
-    ∷ (24 unless WindowRule near)
+    ∷ (stop unless (stop ≡ 0))
+    ∷ (51 unless (pdus ≤ 8))
+    ∷ (25 unless (near .accepted + pdus ≤ 4294967295))
+    ∷ (24 unless (near .accepted + pdus ≤ near .acknowledged + 8))
     ∷ []
 
 -- Sending number i: 28, 26, 20, 29, 16

@@ -31,7 +31,13 @@ pub struct Near {
     acknowledged: u32,
 }
 
-// What an offer answers: a refusal, or the number that the PDU took.
+// A slice walked from the front (request R-5): the number that stops it, or 0, and how many PDUs stand before that.
+struct Walk {
+    stop: u8,
+    pdus: usize,
+}
+
+// What an offer answers: a refusal, or the number that its first PDU took.
 pub enum Offer {
     Refused(u8),
     Taken(u32),

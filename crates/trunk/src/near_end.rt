@@ -4,12 +4,13 @@ ghost use Prim.Native.Nat.{_+_, _-_, _≤_};
 ghost use lib.ListN.{length};
 ghost use Rattle.wire.specs.Bytes.{splice};
 ghost use Rattle.wire.specs.First.{first};
-ghost use Rattle.pdu.specs.Reading.{reading};
+ghost use Rattle.pdu.specs.Reading.{reading, used};
 ghost use Rattle.pdu.specs.Writing.{writtenForm};
 ghost use Rattle.trunk.specs.Kinds.{kindOf, noKind, longestPdu, longestRecord};
-ghost use Rattle.trunk.specs.Record.{recordOf};
-ghost use Rattle.trunk.specs.Near.{rowSize, storeSize, freshNear, rowStart, offerRulesOf, sendRules, acknowledgedAfter, OfferGives};
-ghost use Rattle.trunk.specs.Near.{SendGives, ReplyGives};
+ghost use Rattle.trunk.specs.Record.{recordOf, lastNumber};
+ghost use Rattle.trunk.specs.Bundle.{stopOf, sliceStop, bundleStop, bundle};
+ghost use Rattle.trunk.specs.Near.{rowSize, storeSize, freshNear, rowStart, offerRulesOf, stored, storedAll, sendRules, acknowledgedAfter};
+ghost use Rattle.trunk.specs.Near.{OfferGives, SendGives, ReplyGives};
 use crate::Head;
 use crate::Near;
 use crate::Offer;
@@ -18,12 +19,16 @@ use crate::Replied;
 use crate::Reply;
 use crate::Sending;
 use crate::Sent;
+use crate::Walk;
 use crate::kinds;
 use crate::records;
 use crate::refusals;
 use pdu::Reading;
 
 const ROWS: u32 = 8;
+
+// The most PDUs that one offer takes.
+const MOST_PDUS: usize = 8;
 
 const ROW_SIZE: usize = 192;
 
@@ -60,23 +65,69 @@ fn row_start(number: u32) -> usize
     ROW_SIZE * (number % ROWS) as usize
 }
 
-// The number of the first broken rule of an offer, by the reader's number and the kind of what was read, or 0.
-fn offer_refusal(near: Near, store_length: usize, read: u8, kind: u16) -> u8
-    ensures { λ r. ⌜ r ≡ first (offerRulesOf near «store_length» read kind) ⌝ }
+// The number that stops a PDU, by what reading answered, or 0.
+fn stop_of(answer: Reading) -> u8
+    ensures { λ r. ⌜ r ≡ stopOf answer ⌝ }
+{
+    let n = reader::number(answer);
+    if n != 0 {
+        return n;
+    }
+    if kinds::kind_of(answer) == kinds::NO_KIND {
+        return refusals::NOT_CARRIED;
+    }
+    0
+}
+
+// Walks a slice from the front, PDU by PDU, to its end or to the first that is stopped.
+fn walk(datagram: &[u8]) -> Walk
+    ensures { λ r. ⌜ (r .stop ≡ sliceStop (now (datagram .entry))) × (r .pdus ≡ length (bundle (now (datagram .entry)))) ⌝ }
+{
+    let mut at = 0;
+    let mut pdus = 0;
+    while at < datagram.len() {
+        let answer = reader::read(&datagram[at..]);
+        let stop = stop_of(answer);
+        if stop != 0 {
+            return Walk { stop, pdus };
+        }
+        at += reader::size(answer) as usize;
+        pdus += 1;
+    }
+    Walk { stop: 0, pdus }
+}
+
+// The same of a slice that is offered: an empty one is too short.
+fn bundle_of(datagram: &[u8]) -> Walk
+    ensures { λ r. ⌜ (r .stop ≡ bundleStop (now (datagram .entry))) × (r .pdus ≡ length (bundle (now (datagram .entry)))) ⌝ }
+{
+    if datagram.len() == 0 {
+        return Walk {
+            stop: pdu::refusals::SHORT,
+            pdus: 0,
+        };
+    }
+    walk(datagram)
+}
+
+// The number of the first broken rule of an offer, by the number that stops its slice and how many PDUs that has, or 0.
+fn offer_refusal(near: Near, store_length: usize, stop: u8, pdus: usize) -> u8
+    ensures { λ r. ⌜ r ≡ first (offerRulesOf near «store_length» stop pdus) ⌝ }
 {
     if store_length != STORE_SIZE {
         return refusals::STORE_SIZE;
     }
-    if read != 0 {
-        return read;
+    if stop != 0 {
+        return stop;
     }
-    if kind == kinds::NO_KIND {
-        return refusals::NOT_CARRIED;
+    if pdus > MOST_PDUS {
+        return refusals::MANY_PDUS;
     }
-    if near.accepted == records::LAST_NUMBER {
+    let more = pdus as u32;
+    if records::LAST_NUMBER - near.accepted < more {
         return refusals::RECORD_NUMBER;
     }
-    if unacknowledged(near) >= ROWS {
+    if unacknowledged(near) + more > ROWS {
         return refusals::WINDOW_FULL;
     }
     0
@@ -118,13 +169,40 @@ fn put_record(row: &mut [u8], head: Head, answer: Reading, datagram: &[u8])
     put_pdu(&mut row[records::HEAD_SIZE..], answer, datagram);
 }
 
-// Offers a datagram: takes its PDU under the next number and writes its record into that number's row of the store.
+// Writes the record of a slice's first PDU into the row of its number, and answers how many bytes of the slice the PDU used.
+fn put_first(store: &mut [u8], number: u32, datagram: &[u8]) -> usize
+    requires { ⌜ (length (now store) ≡ storeSize) × (kindOf (reading (now datagram)) ≡ noKind → ⊥) ⌝ }
+    ensures { λ r. ⌜ (r ≡ used (now (datagram .entry))) × (now (store .exit) ≡ stored number (now (store .entry)) (now (datagram .entry))) ⌝ }
+{
+    let answer = reader::read(datagram);
+    let start = row_start(number);
+    let head = Head {
+        kind: kinds::kind_of(answer) as u8,
+        number,
+    };
+    put_record(&mut store[start..start + ROW_SIZE], head, answer, datagram);
+    reader::size(answer) as usize
+}
+
+// Writes the records of a bundle's PDUs, each into the row of its number, from this number on.
+fn put_bundle(store: &mut [u8], number: u32, datagram: &[u8])
+    requires { ⌜ (length (now store) ≡ storeSize) × (bundleStop (now datagram) ≡ 0) × (number + length (bundle (now datagram)) ≤ lastNumber) ⌝ }
+    ensures { λ _. ⌜ now (store .exit) ≡ storedAll number (now (store .entry)) (bundle (now (datagram .entry))) ⌝ }
+{
+    let mut from = 0;
+    let mut next = number;
+    while from < datagram.len() {
+        from += put_first(store, next, &datagram[from..]);
+        next += 1;
+    }
+}
+
+// Offers a datagram: takes all its PDUs under the next numbers, and writes their records into the rows of these in the store, or takes none.
 pub fn offer(near: Near, store: &mut [u8], datagram: &[u8]) -> Offered
     ensures { λ r. ⌜ OfferGives near (now (store .entry)) (now (datagram .entry)) r (now (store .exit)) ⌝ }
 {
-    let answer = reader::read(datagram);
-    let kind = kinds::kind_of(answer);
-    let n = offer_refusal(near, store.len(), reader::number(answer), kind);
+    let walk = bundle_of(datagram);
+    let n = offer_refusal(near, store.len(), walk.stop, walk.pdus);
     if n != 0 {
         return Offered {
             near,
@@ -132,15 +210,10 @@ pub fn offer(near: Near, store: &mut [u8], datagram: &[u8]) -> Offered
         };
     }
     let number = near.accepted;
-    let start = row_start(number);
-    let head = Head {
-        kind: kind as u8,
-        number,
-    };
-    put_record(&mut store[start..start + ROW_SIZE], head, answer, datagram);
+    put_bundle(store, number, datagram);
     Offered {
         near: Near {
-            accepted: number + 1,
+            accepted: number + walk.pdus as u32,
             acknowledged: near.acknowledged,
         },
         answer: Offer::Taken(number),

@@ -12,10 +12,10 @@ pub(crate) const RECORD_PDU: u8 = 22;
 // A Signal of a message type that no record carries: 6 and 7 are left for it.
 pub(crate) const NOT_CARRIED: u8 = 23;
 
-// Eight PDUs are unacknowledged.
+// With these PDUs more than eight would be unacknowledged.
 pub(crate) const WINDOW_FULL: u8 = 24;
 
-// All numbers are used, or a PDU record has the number that none gets.
+// The numbers left do not suffice, or a PDU record has the number that none gets.
 pub(crate) const RECORD_NUMBER: u8 = 25;
 
 pub(crate) const NOT_HELD: u8 = 26;
@@ -27,3 +27,6 @@ pub(crate) const STORE_SIZE: u8 = 28;
 
 // A reply where a PDU belongs, or the reverse.
 pub(crate) const WRONG_DIRECTION: u8 = 29;
+
+// More than eight PDUs in one datagram (request R-5).
+pub(crate) const MANY_PDUS: u8 = 51;

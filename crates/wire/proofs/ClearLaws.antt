@@ -1,7 +1,7 @@
 -- What clearing a table's padding leaves, piece by piece: slots without padding are the bytes as they stand, in one run, and the others stand
 -- between the runs (`clear-pieces`). By induction on the table, with the run so far in hand.
 -- Assumes nothing.
-use Prim.Native.Nat.{ℕ, _+_, _≤_, _<_, _^_}
+use Prim.Native.Nat.{ℕ, _+_, _≤_}
 use mathlib.Core.Path.{_≡_, refl, sym, ap, _∙_}
 use mathlib.Core.Bool.{Bool, true, false, cond, false≢true}
 use mathlib.Core.List.{List, [], _∷_, _++_, append-assoc}

@@ -142,3 +142,15 @@ verdict a =
       none = (none-broken a, all-met a);
       some = λ n. (λ h. some-broken a n (h .0) (h .1), is-given a n);
     }
+
+-- ---- rules of two lists in a row
+
+pub met-split : (ps qs : List Rule) → Met (ps ++ qs) → Met ps × Met qs
+met-split [] qs m = (tt, m)
+met-split ((n unless holds) ∷ ps) qs (h, m) =
+    let (here, rest) = met-split ps qs m in
+    ((h, here), rest)
+
+pub met-join : (ps qs : List Rule) → Met ps → Met qs → Met (ps ++ qs)
+met-join [] qs m k = k
+met-join ((n unless holds) ∷ ps) qs (h, m) k = (h, met-join ps qs m k)

@@ -11,10 +11,8 @@ use native.Mathlib.Omega.{arith}
 use borrow.Author.Tests.{ne-eqb}
 use Rattle.wire.specs.Bytes.{num}
 use Rattle.wire.specs.First.{first}
-use Rattle.wire.specs.Table.{allBlank}
-use Rattle.pdu.specs.Forms.{tableOf}
 use Rattle.pdu.specs.Reading.{startRules, content, refusal}
-use Rattle.pdu.specs.Writing.{writtenAs, inWrittenForm}
+use Rattle.pdu.specs.Writing.{onlyForm, writtenAs, inWrittenForm}
 use Rattle.pdu.specs.declared.Reading.{Reading}
 use Rattle.pdu.proofs.Agreement.{content-transmitter, content-signal}
 use Rattle.pdu.proofs.ReadLaws.{start-long, start-next, start-here}
@@ -41,7 +39,7 @@ by-form : (held : List ℕ) (r : Reading) → first (startRules held) ≡ 0 → 
 unfolding inWrittenForm
 by-form held r e same =
     ap (λ (q : Reading). writtenAs q held) (sym same)
-    ∙ ap (λ (n : ℕ). eqb n 0 && allBlank 0 (tableOf (content held)) held) (sym (start-next held e))
+    ∙ ap (λ (n : ℕ). eqb n 0 && onlyForm (content held) held) (sym (start-next held e))
 
 refusal-requires : tie.Need-refusal-requires
 refusal-requires c κs = search needs

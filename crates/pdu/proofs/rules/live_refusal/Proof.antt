@@ -1,6 +1,5 @@
 -- `live_refusal` meets its contract: the network header's rules answer first, and where none is broken the message type decides.
 -- Assumes nothing.
-use Prim.Native.Nat.{ℕ}
 use mathlib.Core.Path.{_≡_, refl, sym, ap, _∙_}
 use mathlib.Core.Bool.{Bool}
 use mathlib.Core.List.{[], _∷_}

@@ -74,7 +74,7 @@ returns c =
     let inside = zeros .before .before in
     let ends = inside .before .before .before in
     let d : List ℕ = now (ends .before .before .args .d) in
-    let laid = signal-laid d (ends .before .before .pre .0) in
+    let laid = ends .before .before .pre .2 in
     let n = bodySize d in
     let own = bodyBlank d in
     let seven = versionSeven d in
@@ -85,7 +85,7 @@ returns c =
     zeros .is-zero .ensures
     ∙ ap allZero (part-rest (ends .body-end .result) d)
     ∙ ap (λ (o : ℕ). allZero (drop o d)) (ends .body-end .ensures .0)
-    ∙ zero-end (fillOf n) (bodyStart + n) d (omega (arith, laid .size)) in
+    ∙ zero-end (fillOf n) (bodyStart + n) d (omega (arith, laid)) in
     rw (
       c .both3 .ensures,
       c .before .is-blank .ensures,

@@ -1,16 +1,17 @@
 -- The Signal's `is_written` meets its contract: a broken rule of the form is found by the part that it stands in, and where none is the
--- padding decides.
+-- size decides, and then the padding.
 -- Assumes nothing.
 use Prim.Native.Nat.{ℕ}
-use mathlib.Core.Path.{_≡_, sym, _∙_}
+use mathlib.Core.Path.{_≡_, sym, ap, _∙_}
 use mathlib.Core.List.{List}
 use denote.Ref.{now}
 use Rattle.wire.specs.First.{first}
+use Rattle.pdu.specs.Tables.{signalSize}
 use Rattle.pdu.specs.Rules.{innerRules}
 use Rattle.pdu.specs.Reading.{signalOf, bodySize, signalLayout, formRules}
 use Rattle.pdu.specs.declared.Reading.{Reading}
 use Rattle.pdu.specs.declared.Reading.the-variants.{Signal as aSignal}
-use Rattle.pdu.proofs.ReadLaws.{form-here, form-next, not-written, written-blank}
+use Rattle.pdu.proofs.ReadLaws.{form-here, form-next, not-written, not-alone, written-blank}
 use borrow.Author.Needs.{needs}
 use Rattle.reader.proofs.signal.is_written.Statement.{statement}
 use Rattle.reader.proofs.signal.is_written.Tie as tie
@@ -48,15 +49,36 @@ returns-2 c =
     let past = c .before .before in
     sym (not-written (form (d₁ past)) (d₁ past) (λ e. c .if2 .taken (answer ∙ sym (next past) ∙ e)))
 
-is-blank-requires : tie.Need-is-blank-requires
-is-blank-requires c κs = (laid (c .before .before), sym (c .before .inner-refusal .ensures) ∙ c .if2 .left)
+body-size-requires : tie.Need-body-size-requires
+body-size-requires c κs = laid (c .before .before)
+
+signal-size-requires : tie.Need-signal-size-requires
+signal-size-requires c κs = search needs
+
+-- the form's size, as the code reckoned it
+size-read : (c : tie.After-signal-size) → c .signal-size .result ≡ signalSize (bodySize (d₁ (c .before .before .before .before)))
+size-read c = c .signal-size .ensures ∙ ap signalSize (c .before .body-size .ensures)
 
 returns-3 : tie.Need-returns-3
 returns-3 c =
-    let answer = c .before .before .inner-refusal .ensures in
-    let past = c .before .before .before in
+    let sized = c .before in
+    let d = d₁ (sized .before .before .before .before) in
+    sym (not-alone (form d) d (λ e. c .if3 .taken (e ∙ sym (size-read sized))))
+
+is-blank-requires : tie.Need-is-blank-requires
+is-blank-requires c κs =
+    let sized = c .before in
+    let inner = sized .before .before in
+    (laid (inner .before .before), sym (inner .before .inner-refusal .ensures) ∙ inner .if2 .left, c .if3 .left ∙ size-read sized)
+
+returns-4 : tie.Need-returns-4
+returns-4 c =
+    let sized = c .before .before in
+    let inner = sized .before .before in
+    let past = inner .before .before in
     let d = d₁ past in
-    c .is-blank .ensures ∙ sym (written-blank (form d) d (next past ∙ sym answer ∙ c .before .if2 .left))
+    let none = next past ∙ sym (inner .before .inner-refusal .ensures) ∙ inner .if2 .left in
+    c .is-blank .ensures ∙ sym (written-blank (form d) d none (c .before .if3 .left ∙ size-read sized))
 
 pub is-written-spec : {M : Type 1} → statement M
 is-written-spec =
@@ -66,5 +88,8 @@ is-written-spec =
     returns
     inner-refusal-requires
     returns-2
+    body-size-requires
+    signal-size-requires
+    returns-3
     is-blank-requires
-    returns-3)
+    returns-4)

@@ -36,9 +36,9 @@ d₄ c = d₃ (c .before .before .before)
 class-read : (c : tie.After-u16-at) → c .u16-at .result / Numbers.encodingKept ≡ num 2 20 (d₁ (c .before)) / Numbers.encodingKept
 class-read c = ap (λ (n : ℕ). n / Numbers.encodingKept) (c .u16-at .ensures)
 
-size-read : (c : tie.After-filled-size) → c .filled-size .result ≡ filled (Numbers.signalLeast + num 2 28 (d₄ (c .before)) / 8)
+size-read : (c : tie.After-filled-size) → c .filled-size .result ≡ filled (Numbers.signalLeast + num 2 28 (d₄ (c .before .before)) / 8)
 size-read c =
-    let read = c .before .before .before in
+    let read = c .before .before .before .before in
     c .filled-size .ensures ∙ ap (λ (n : ℕ). filled (Numbers.signalLeast + n / 8)) (read .u16-at3 .ensures)
 
 -- what each test has shown
@@ -103,13 +103,22 @@ returns-4 c =
       sym (tested .wrong-bits .ensures ∙ ap wrongBits (tested .before .u16-at3 .ensures)) ∙ c .if4 .taken,
     )
 
+u16-at-requires-4 : tie.Need-u16-at-requires-4
+u16-at-requires-4 c κs =
+    let tdl = c .before .before .before in
+    omega (arith, long (tdl .before .before .before .before))
+
+cast-if5 : tie.Need-cast-if5
+cast-if5 c = search needs
+
 filled-size-requires : tie.Need-filled-size-requires
 filled-size-requires c κs = search needs
 
 returns-5 : tie.Need-returns-5
 unfolding signalLayout
 returns-5 c =
-    let past = c .before .before in
+    let field = c .before .before in
+    let past = field .before in
     let tdl = past .before .before .before in
     let class = tdl .before .before in
     rw (
@@ -117,13 +126,14 @@ returns-5 c =
       class-right class,
       tdl-right tdl,
       bits-right past,
-      differs _ _ (λ e. c .if5 .taken (e ∙ sym (size-read (c .before)))),
+      differs _ _ (λ e. c .if5 .taken (field .u16-at4 .ensures ∙ e ∙ sym (size-read (c .before)))),
     )
 
 returns-6 : tie.Need-returns-6
 unfolding signalLayout
 returns-6 c =
-    let past = c .before .before in
+    let field = c .before .before in
+    let past = field .before in
     let tdl = past .before .before .before in
     let class = tdl .before .before in
     rw (
@@ -131,7 +141,7 @@ returns-6 c =
       class-right class,
       tdl-right tdl,
       bits-right past,
-      agrees _ _ (c .if5 .left ∙ size-read (c .before)),
+      agrees _ _ (sym (field .u16-at4 .ensures) ∙ c .if5 .left ∙ size-read (c .before)),
     )
 
 pub layout-refusal-spec : {M : Type 1} → statement M
@@ -147,6 +157,8 @@ layout-refusal-spec =
     u16-at-requires-3
     wrong-bits-requires
     returns-4
+    u16-at-requires-4
+    cast-if5
     filled-size-requires
     returns-5
     returns-6)

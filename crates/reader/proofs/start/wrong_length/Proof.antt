@@ -8,19 +8,16 @@ use Rattle.reader.proofs.start.wrong_length.Tie as tie
 u16-at-requires : tie.Need-u16-at-requires
 u16-at-requires c κs = search needs
 
-cast-no : tie.Need-cast-no
-cast-no c = search needs
-
-no-requires : tie.Need-no-requires
-no-requires c κs = search needs
+cast-either : tie.Need-cast-either
+cast-either c = search needs
 
 either-requires : tie.Need-either-requires
 either-requires c κs = search needs
 
 returns : tie.Need-returns
 unfolding wrongLength
-returns c = rw (c .either .ensures, c .before .no .ensures, c .before .before .u16-at .ensures)
+returns c = rw (c .either .ensures, c .before .u16-at .ensures)
 
 pub wrong-length-spec : {M : Type 1} → statement M
 wrong-length-spec =
-    tie.close (tie.spec u16-at-requires cast-no no-requires either-requires returns)
+    tie.close (tie.spec u16-at-requires cast-either either-requires returns)

@@ -1,9 +1,9 @@
 -- `is_blank` meets its contract: the tests, joined, are those of the table's padding, which are the shared bytes' and those behind them
 -- (`blank-append`); bytes 30 and 31 are zero where they are no padding (`records-blank`).
 -- Assumes nothing.
-use Prim.Native.Nat.{ℕ}
-use mathlib.Core.Path.{_≡_, sym, ap, ap₂, _∙_}
-use mathlib.Core.Bool.{Bool, _&&_}
+use Prim.Native.Nat.{ℕ, _≤_}
+use mathlib.Core.Path.{_≡_, sym, ap₂}
+use mathlib.Core.Bool.{_&&_}
 use mathlib.Core.List.{List, _++_}
 use lib.ListN.{length}
 use lib.Dec.{eqb}
@@ -30,8 +30,8 @@ d c = now (c .before .args .d)
 bytes : (c : tie.After-shared-slice-known) → Bytes (d c)
 bytes c i = omega (arith, c .shared-slice-known .given i)
 
-long : (c : tie.After-shared-slice-known) → length (d c) ≡ Numbers.transmitterSize
-long c = transmitter-laid (d c) (c .before .pre)
+long : (c : tie.After-shared-slice-known) → Numbers.transmitterSize ≤ length (d c)
+long c = transmitter-laid (d c) (c .before .pre) .size
 
 -- the padding behind the shared bytes
 late : (c : tie.After-shared-slice-known)

@@ -1,5 +1,5 @@
 -- The Transmitter's `is_written` meets its contract: a broken rule of the form is found by the part that it stands in, and where none is the
--- padding decides.
+-- size decides, and then the padding.
 -- Assumes nothing.
 use Prim.Native.Nat.{ℕ}
 use mathlib.Core.Path.{_≡_, sym, ap, _∙_}
@@ -12,7 +12,7 @@ use Rattle.pdu.specs.Rules.{wrongSync, innerRules}
 use Rattle.pdu.specs.Reading.{transmitterOf, transmitterLayout}
 use Rattle.pdu.specs.declared.Reading.{Reading}
 use Rattle.pdu.specs.declared.Reading.the-variants.{Transmitter as aTransmitter}
-use Rattle.pdu.proofs.ReadLaws.{transmitter-laid, form-here, form-next, not-written, written-blank}
+use Rattle.pdu.proofs.ReadLaws.{transmitter-laid, form-here, form-next, not-written, not-alone, written-blank}
 use borrow.Author.Needs.{needs}
 use Rattle.reader.proofs.transmitter.is_written.Statement.{statement}
 use Rattle.reader.proofs.transmitter.is_written.Tie as tie
@@ -61,17 +61,26 @@ returns-2 c =
     let wrong = sym (tested .wrong-sync .ensures ∙ ap wrongSync (tested .before .read-sync .ensures)) ∙ c .if2 .taken in
     sym (not-written (form (d₁ past)) (d₁ past) (λ e. broken (d₁ past) wrong (sym (form-next (form (d₁ past)) (d₁ past) (laid past)) ∙ e)))
 
-is-blank-requires : tie.Need-is-blank-requires
-is-blank-requires c κs = laid (c .before .before .before)
-
 returns-3 : tie.Need-returns-3
-unfolding transmitterOf
 returns-3 c =
     let tested = c .before .before in
     let past = tested .before .before in
+    sym (not-alone (form (d₁ past)) (d₁ past) (c .if3 .taken))
+
+is-blank-requires : tie.Need-is-blank-requires
+is-blank-requires c κs =
+    let tested = c .before .before in
+    laid (tested .before .before)
+
+returns-4 : tie.Need-returns-4
+unfolding transmitterOf
+returns-4 c =
+    let right-sync = c .before .before in
+    let tested = right-sync .before in
+    let past = tested .before .before in
     let d = d₁ past in
-    let right = sym (tested .wrong-sync .ensures ∙ ap wrongSync (tested .before .read-sync .ensures)) ∙ c .before .if2 .left in
-    c .is-blank .ensures ∙ sym (written-blank (form d) d (form-next (form d) d (laid past) ∙ inner d right))
+    let right = sym (tested .wrong-sync .ensures ∙ ap wrongSync (tested .before .read-sync .ensures)) ∙ right-sync .if2 .left in
+    c .is-blank .ensures ∙ sym (written-blank (form d) d (form-next (form d) d (laid past) ∙ inner d right) (c .before .if3 .left))
 
 pub is-written-spec : {M : Type 1} → statement M
 is-written-spec =
@@ -82,5 +91,6 @@ is-written-spec =
     read-sync-requires
     wrong-sync-requires
     returns-2
+    returns-3
     is-blank-requires
-    returns-3)
+    returns-4)

@@ -118,19 +118,28 @@ returns-5 c =
     let (length, fixed, modulation, pattern) = four (c .before .before) in
     rw (length, fixed, modulation, pattern, sym (c .before .wrong-records .ensures) ∙ c .if5 .taken)
 
+u16-at-requires-2 : tie.Need-u16-at-requires-2
+u16-at-requires-2 c κs =
+    let pattern = c .before .before in
+    let fixed = pattern .before .before .before .before in
+    omega (arith, long (fixed .before .before))
+
+cast-if6 : tie.Need-cast-if6
+cast-if6 c = search needs
+
 returns-6 : tie.Need-returns-6
 unfolding transmitterLayout
 returns-6 c =
-    let past = c .before in
+    let past = c .before .before in
     let (length, fixed, modulation, pattern) = four (past .before .before) in
-    rw (length, fixed, modulation, pattern, records-right past, differs _ _ (c .if6 .taken))
+    rw (length, fixed, modulation, pattern, records-right past, differs _ _ (λ e. c .if6 .taken (c .before .u16-at2 .ensures ∙ e)))
 
 returns-7 : tie.Need-returns-7
 unfolding transmitterLayout
 returns-7 c =
-    let past = c .before in
+    let past = c .before .before in
     let (length, fixed, modulation, pattern) = four (past .before .before) in
-    rw (length, fixed, modulation, pattern, records-right past, agrees _ _ (c .if6 .left))
+    rw (length, fixed, modulation, pattern, records-right past, agrees _ _ (sym (c .before .u16-at2 .ensures) ∙ c .if6 .left))
 
 pub layout-refusal-spec : {M : Type 1} → statement M
 layout-refusal-spec =
@@ -146,5 +155,7 @@ layout-refusal-spec =
     returns-4
     wrong-records-requires
     returns-5
+    u16-at-requires-2
+    cast-if6
     returns-6
     returns-7)

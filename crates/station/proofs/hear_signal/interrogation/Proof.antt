@@ -2,7 +2,6 @@
 -- Assumes nothing.
 use Rattle.station.specs.Hearing.{hearMessage}
 use Rattle.station.proofs.PartLaws.{kept}
-use borrow.Author.Needs.{needs}
 use Rattle.station.proofs.hear_signal.interrogation.Statement.{statement}
 use Rattle.station.proofs.hear_signal.interrogation.Tie as tie
 

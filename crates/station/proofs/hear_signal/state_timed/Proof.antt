@@ -1,7 +1,6 @@
 -- The test decides between Fine and Coarse.
 -- Assumes nothing.
 use borrow.Author.Tests.{eq-eqb, ne-eqb}
-use borrow.Author.Needs.{needs}
 use Rattle.station.proofs.hear_signal.state_timed.Statement.{statement}
 use Rattle.station.proofs.hear_signal.state_timed.Tie as tie
 

@@ -1,7 +1,6 @@
 -- `load_of_type` meets its contract: the tests decide between the two types of round-trip timing and none.
 -- Assumes nothing.
 use borrow.Author.Tests.{eq-eqb, ne-eqb}
-use borrow.Author.Needs.{needs}
 use Rattle.trunk.proofs.kinds.load_of_type.Statement.{statement}
 use Rattle.trunk.proofs.kinds.load_of_type.Tie as tie
 
