@@ -70,7 +70,7 @@ run: rust-compiler $(EXAMPLE) $(SECOND) $(REPLAY)
 	@$(SECOND) exercise | $(REPLAY) | $(SECOND) tell
 
 .PHONY: test
-## make test             every proof, test and comparison, from nothing; ends with the counts   15 minutes
+## make test             every proof, test and comparison, from nothing; ends with the counts   25 minutes
 test: rust-compiler kit
 	$(need-rt)
 	@KIT_TOLD=yes scripts/test.sh
