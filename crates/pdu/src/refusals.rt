@@ -11,7 +11,7 @@ pub const STATUS: u8 = 52;
 // Type or family.
 pub const TYPE: u8 = 3;
 
-// The length field is not the slice's length, or too small for its type.
+// The length field is above the slice's length, or too small for its type.
 pub const LENGTH: u8 = 4;
 
 // Category, input source, major, detail or system.
@@ -24,7 +24,7 @@ pub const PATTERN_LENGTH: u8 = 7;
 // Variable parameter records in a Transmitter of version 7 (request R-9).
 pub const PARAMETER_RECORDS: u8 = 64;
 
-// The PDU is not 112 bytes, or not the filled size.
+// The length field is not 112, or not the filled size.
 pub const PDU_SIZE: u8 = 8;
 
 // Bytes 104 to 111 break their rules.
