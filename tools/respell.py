@@ -74,6 +74,18 @@ def dashes(name, known):
     return out
 
 
+def imported(paths):
+    """The names that come from outside the repository: these keep their spelling."""
+    own = {path.split("/")[1] for path in glob.glob("crates/*/src")}
+    names = set()
+    for path in paths:
+        for module, items in re.findall(r"\buse ([^\s{;]+)\.\{([^}]*)\}", open(path).read()):
+            parts = module.split(".")
+            if not (parts[0] == "Rattle" and parts[1] in own):
+                names |= {item.split(" as ")[0].strip() for item in items.split(",")}
+    return names
+
+
 def renaming():
     specs = files("crates/*/specs/**/*.antt")
     proofs = files("crates/*/proofs/**/*.antt")
@@ -97,8 +109,11 @@ def renaming():
             found = inside and re.match(r"^ +(?:pub )?([^\s(){}.]+) :", line)
             if found:
                 fields.add(found[1].strip("◌"))
+    outside = imported(specs + proofs + files("crates/*/src/**/*.rt"))
     new = {}
     for name in every:
+        if name in outside:
+            continue
         if name in CHOSEN:
             new[name] = CHOSEN[name]
             continue

@@ -9,7 +9,7 @@ use mathlib.Core.Bool.{Bool, true, false, not, true≢false, false≢true}
 use mathlib.Core.List.{List, [], ◌∷◌, ◌++◌}
 use lib.ListN.{length}
 use lib.Dec.{eqb, ltb}
-use borrow.Author.Tests.{eqb-true, eqb_false, eq-eqb, ne_eqb}
+use borrow.Author.Tests.{eqb-true, eqb-false, eq-eqb, ne_eqb}
 use native.Mathlib.Nat.{div-one}
 use native.Mathlib.Omega.{arith}
 use Rattle.wire.specs.Bytes.{num}
@@ -92,7 +92,7 @@ mode_says p =
     ends : (b : Bool) → eqb p 1 ≡ b → 1 ≤ p → p ≤ 2 → (p ≡ 1) ⊎ (p ≡ 2)
     ends true e low high = inl (eqb-true _ _ e)
     ends false e low high =
-        let other : p ≢ 1 = eqb_false _ _ e in
+        let other : p ≢ 1 = eqb-false _ _ e in
         inr (omega arith)
 
 pub sync_says : (s : Sync) → (wrong_sync s ≡ false) ↔ SyncRule s.level s.primary s.secondary s.state s.id

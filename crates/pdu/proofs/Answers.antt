@@ -9,7 +9,7 @@ use mathlib.Core.Logic.{◌↔◌, ◌≢◌}
 use mathlib.Core.Bool.{Bool, true, false}
 use mathlib.Core.List.{List, ◌∷◌}
 use lib.Dec.{eqb}
-use borrow.Author.Tests.{eqb-true, eqb_false, eq-eqb, ne_eqb}
+use borrow.Author.Tests.{eqb-true, eqb-false, eq-eqb, ne_eqb}
 use native.Mathlib.Omega.{arith}
 use Rattle.wire.specs.Bytes.{num}
 use Rattle.wire.specs.First.{Refusal, first}
@@ -44,7 +44,7 @@ content-holds d = by (says_transmitter d) refl
   where
     by : (b : Bool) → says_transmitter d ≡ b → Holds (content d)
     by true t = subst Holds (sym (content-transmitter d (eqb-true _ _ t))) tt
-    by false t = subst Holds (sym (content-signal d (eqb_false _ _ t))) tt
+    by false t = subst Holds (sym (content-signal d (eqb-false _ _ t))) tt
 
 pub answer-taken : (n : ℕ) (d : List ℕ) → n ≡ 0 → answer_by n d ≡ content d
 answer-taken n d e = rw (eq-eqb n 0 e)
@@ -60,7 +60,7 @@ answers_as n d r h e = by (eqb n 0) refl
     by true t =
         let none = eqb-true _ _ t in
         (none, sym (answer-taken n d none) ∙ e)
-    by false t = absurd (subst Holds (sym e ∙ answer-refused n d (eqb_false _ _ t)) h)
+    by false t = absurd (subst Holds (sym e ∙ answer-refused n d (eqb-false _ _ t)) h)
 
 -- a refusal: by that number
 pub answers-refused : (n : ℕ) (d : List ℕ) (m : ℕ) → (answer_by n d ≡ Refused m) ↔ ((n ≡ m) × (m ≢ 0))
@@ -72,7 +72,7 @@ answers-refused n d m = (to, from)
         by : (b : Bool) → eqb n 0 ≡ b → (n ≡ m) × (m ≢ 0)
         by true t = absurd (subst Holds (sym (answer-taken n d (eqb-true _ _ t)) ∙ e) (content-holds d))
         by false t =
-            let some = eqb_false _ _ t in
+            let some = eqb-false _ _ t in
             let same : n ≡ m = ap number_of (sym (answer-refused n d some) ∙ e) in
             (same, λ z. some (same ∙ z))
 
@@ -92,7 +92,7 @@ answer-number n d = by (eqb n 0) refl
     by true t =
         let none = eqb-true _ _ t in
         ap number_of (answer-taken n d none) ∙ no_number (content d) (content-holds d) ∙ sym none
-    by false t = ap number_of (answer-refused n d (eqb_false _ _ t))
+    by false t = ap number_of (answer-refused n d (eqb-false _ _ t))
 
 -- and what the answer says is that number, or 0 and what the datagram holds
 pub answer_says : (n : ℕ) (d : List ℕ) → reading_says (answer_by n d) ≡ said_by n d
@@ -102,7 +102,7 @@ answer_says n d = by (eqb n 0) refl
     by true t =
         let none = eqb-true _ _ t in
         ap₂ ◌∷◌ (answer-number n d ∙ none) (ap values_held (answer-taken n d none)) ∙ rw t refl
-    by false t = ap reading_says (answer-refused n d (eqb_false _ _ t)) ∙ rw t refl
+    by false t = ap reading_says (answer-refused n d (eqb-false _ _ t)) ∙ rw t refl
 
 -- ---- what reading answers
 
@@ -145,7 +145,7 @@ as_transmitter d t e = by (says_transmitter d) refl
         let same : a_transmitter t ≡ a_transmitter (transmitter_of d) = sym e ∙ content-transmitter d (eqb-true _ _ y) in
         (eqb-true _ _ y, cc)
     by false y =
-        let other : a_transmitter t ≡ a_signal (signal_of d) (body_size d) = sym e ∙ content-signal d (eqb_false _ _ y) in
+        let other : a_transmitter t ≡ a_signal (signal_of d) (body_size d) = sym e ∙ content-signal d (eqb-false _ _ y) in
         let z : ◌≡◌ {A = ℕ} 0 1 = cc in
         absurd (omega arith)
 
@@ -160,8 +160,8 @@ as_signal d s n e = by (says_transmitter d) refl
         let z : ◌≡◌ {A = ℕ} 0 1 = cc in
         absurd (omega arith)
     by false y =
-        let same : a_signal s n ≡ a_signal (signal_of d) (body_size d) = sym e ∙ content-signal d (eqb_false _ _ y) in
-        (eqb_false _ _ y, cc, cc)
+        let same : a_signal s n ≡ a_signal (signal_of d) (body_size d) = sym e ∙ content-signal d (eqb-false _ _ y) in
+        (eqb-false _ _ y, cc, cc)
 
 -- a datagram that meets the plain rules is taken
 pub transmitter_met : (d : List ℕ) → Met (plain_transmitter d) → (refusal d ≡ 0) × (content d ≡ a_transmitter (transmitter_of d))
@@ -236,7 +236,7 @@ writes_size r room = by (eqb (writing_refusal r room) 0) refl
           let other : NotWritten (writing_refusal r room) ≡ Size (size_of r) = rw t at e in
           let z : ◌≡◌ {A = ℕ} 0 1 = cc in
           absurd (omega arith),
-      λ e. absurd (eqb_false _ _ t e),
+      λ e. absurd (eqb-false _ _ t e),
     )
 
 -- and a refusal, by the first that is
@@ -255,7 +255,7 @@ writes_refused r room n = by (eqb (writing_refusal r room) 0) refl
       λ e.
           let same : NotWritten (writing_refusal r room) ≡ NotWritten n = rw t at e in
           let number : writing_refusal r room ≡ n = cc in
-          (number, λ z. eqb_false _ _ t (number ∙ z)),
+          (number, λ z. eqb-false _ _ t (number ∙ z)),
       λ h. rw t (ap NotWritten h.0),
     )
 

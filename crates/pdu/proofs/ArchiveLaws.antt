@@ -9,7 +9,7 @@ use mathlib.Core.Logic.{◌↔◌, ◌≢◌}
 use mathlib.Core.Bool.{Bool, true, false}
 use mathlib.Core.List.{List, ◌++◌}
 use lib.Dec.{eqb}
-use borrow.Author.Tests.{eqb-true, eqb_false}
+use borrow.Author.Tests.{eqb-true, eqb-false}
 use native.Mathlib.Omega.{arith}
 use Rattle.wire.specs.Bytes.{num}
 use Rattle.wire.specs.First.{first, lacks, without}
@@ -40,7 +40,7 @@ archive_same d h = first-without 50 (reading_rules d) h
 -- no rule of a Transmitter has the number 50
 is_signal : (d : List ℕ) → refusal d ≡ 50 → num 1 2 d ≢ 25
 unfolding refusal reading_rules start_rules transmitter_layout inner_rules
-is_signal d e type = eqb_false (refusal d) 50 (first-lacks is_fifty (reading_rules d) refl none) e
+is_signal d e type = eqb-false (refusal d) 50 (first-lacks is_fifty (reading_rules d) refl none) e
   where
     none : lacks is_fifty (reading_rules d) ≡ true
     none = rw (content-transmitter d type) refl
@@ -76,7 +76,7 @@ by_fifty P d there elsewhere = by (is_fifty (refusal d)) refl
   where
     by : (b : Bool) → is_fifty (refusal d) ≡ b → P
     by true t = there (eqb-true _ _ t)
-    by false t = elsewhere (eqb_false _ _ t)
+    by false t = elsewhere (eqb-false _ _ t)
 
 -- what archive reading takes has its layout, and the size that its length field says
 pub archive_laid : (d : List ℕ) → archive_refusal d ≡ 0 → Laid d
@@ -134,5 +134,5 @@ archive_beside d =
           let behind = archive-behind d ((refuses_as d 50).0 e).0 in
           Iff.trans (answers-refused (archive_refusal d) d n)
           (subst (λ (m : ℕ). ((m ≡ n) × (n ≢ 0)) ↔ FirstBroken n (plain_body_at d)) (sym behind) ((body-verdict d).some n));
-      never_50 = λ e. eqb_false (archive_refusal d) 50 (not_fifty d) ((answers-refused (archive_refusal d) d 50).0 e).0;
+      never_50 = λ e. eqb-false (archive_refusal d) 50 (not_fifty d) ((answers-refused (archive_refusal d) d 50).0 e).0;
     }

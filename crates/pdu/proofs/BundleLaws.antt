@@ -9,7 +9,7 @@ use mathlib.Core.Bool.{Bool, true, false}
 use mathlib.Core.List.{List, [], ◌∷◌, ◌++◌, append-nil}
 use lib.ListN.{length, take, length-append}
 use lib.Seq.{take_at, length-take-le}
-use borrow.Author.Tests.{eqb-true, eqb_false}
+use borrow.Author.Tests.{eqb-true, eqb-false}
 use native.Mathlib.Nat.{zero-add}
 use native.Mathlib.Omega.{arith}
 use Rattle.wire.specs.Bytes.{num}
@@ -48,7 +48,7 @@ used_some d e = by (says_transmitter d) refl
   where
     by : (b : Bool) → says_transmitter d ≡ b → 32 ≤ used d
     by true t = omega (arith, used-field d e, (laid_transmitter d (taken_laid d e) (eqb-true _ _ t)).field)
-    by false t = omega (arith, used-field d e, (signal_laid d (laid_signal d (taken_laid d e) (eqb_false _ _ t))).field)
+    by false t = omega (arith, used-field d e, (signal_laid d (laid_signal d (taken_laid d e) (eqb-false _ _ t))).field)
 
 -- ---- slices that begin alike
 
@@ -187,7 +187,7 @@ alike d z e same long = by (says_transmitter d) refl
         let (none, holds) = transmitter_met z rules in
         reading-taken z none ∙ holds ∙ ap a_transmitter record_same ∙ sym (content-transmitter d type) ∙ sym (reading-taken d e)
     by false t =
-        let type = eqb_false _ _ t in
+        let type = eqb-false _ _ t in
         let field = used-field d e in
         let whole = (signal_laid d (laid_signal d (taken_laid d e) type)).field in
         let met = (signal-verdict d type).none.0 e in
@@ -261,7 +261,7 @@ archive_alike d z e same long = by (says_transmitter d) refl
         ∙ sym (content-transmitter d type)
         ∙ sym (archive-taken d e)
     by false t =
-        let type = eqb_false _ _ t in
+        let type = eqb-false _ _ t in
         let field = archive-size d e in
         let whole = (signal_laid d (laid_signal d (archive_laid d e) type)).field in
         let head : 52 ≤ kept_size d = omega (arith, field, whole) in
@@ -279,7 +279,7 @@ archive-fits d e = by (says_transmitter d) refl
   where
     by : (b : Bool) → says_transmitter d ≡ b → kept_size d ≤ length d
     by true t = omega (arith, archive-size d e, laid_transmitter d (archive_laid d e) (eqb-true _ _ t))
-    by false t = omega (arith, archive-size d e, signal_laid d (laid_signal d (archive_laid d e) (eqb_false _ _ t)))
+    by false t = omega (arith, archive-size d e, signal_laid d (laid_signal d (archive_laid d e) (eqb-false _ _ t)))
 
 pub archive_alone_says : (d : List ℕ) → archive_refusal d ≡ 0 → FirstAlone archive_reading d
 archive_alone_says d e =

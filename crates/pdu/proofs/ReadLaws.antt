@@ -9,7 +9,7 @@ use mathlib.Core.List.{List, ◌++◌}
 use lib.ListN.{length, take, drop, length-drop}
 use lib.Seq.{length-take-le}
 use lib.Dec.{eqb, leb}
-use borrow.Author.Tests.{eqb-true, eqb_false, eq-eqb, ne_eqb}
+use borrow.Author.Tests.{eqb-true, eqb-false, eq-eqb, ne_eqb}
 use native.Mathlib.Omega.{arith}
 use Rattle.wire.specs.Bytes.{num, splice}
 use Rattle.wire.proofs.ByteLaws.{splice-start}
@@ -186,11 +186,11 @@ pub not_written : (r : Reading) (d : List ℕ) → first (form_rules r d) ≢ 0 
 not_written r d e = rw (ne_eqb (first (form_rules r d)) 0 e)
 
 pub not_alone : (r : Reading) (d : List ℕ) → length d ≢ size_of r → written_as r d ≡ false
-not_alone r d e = rw (ne_eqb (length d) (size_of r) e) (and_false (eqb (first (form_rules r d)) 0))
+not_alone r d e = rw (ne_eqb (length d) (size_of r) e) (and-false (eqb (first (form_rules r d)) 0))
   where
-    and_false : (b : Bool) → (b && false) ≡ false
-    and_false true = refl
-    and_false false = refl
+    and-false : (b : Bool) → (b && false) ≡ false
+    and-false true = refl
+    and-false false = refl
 
 pub written-blank : (r : Reading) (d : List ℕ) → first (form_rules r d) ≡ 0 → length d ≡ size_of r → written_as r d ≡ all_blank 0 (table_of r) d
 written-blank r d e alone = rw (eq-eqb (first (form_rules r d)) 0 e, eq-eqb (length d) (size_of r) alone)
@@ -226,7 +226,7 @@ laid_size d h = by (says_transmitter d) refl
         let type = eqb-true _ _ t in
         (laid_transmitter d h type).field ∙ ap size_of (sym (content-transmitter d type))
     by false t =
-        let type = eqb_false _ _ t in
+        let type = eqb-false _ _ t in
         (signal_laid d (laid_signal d h type)).field ∙ ap size_of (sym (content-signal d type))
 
 -- ---- the numbers that reading and writing do not give
@@ -280,8 +280,8 @@ archive-without d =
 pub no_thirteen : NoThirteen
 unfolding archive_reading
 no_thirteen = record {
-  reading_gives = λ d n e q. eqb_false (refusal d) 13 (reading-lacks is_thirteen d (read-without d) refl) (((refuses_as d n).0 e).0 ∙ q);
-  archive_gives = λ d n e q. eqb_false (archive_refusal d) 13 (archive-without d) (((answers-refused (archive_refusal d) d n).0 e).0 ∙ q);
+  reading_gives = λ d n e q. eqb-false (refusal d) 13 (reading-lacks is_thirteen d (read-without d) refl) (((refuses_as d n).0 e).0 ∙ q);
+  archive_gives = λ d n e q. eqb-false (archive_refusal d) 13 (archive-without d) (((answers-refused (archive_refusal d) d n).0 e).0 ∙ q);
   writing_gives = λ r room n e q.
-      eqb_false (writing_refusal r room) 13 (first-lacks is_thirteen (writing_rules r room) refl (write_without r room)) (((writes_refused r room n).0 e).0 ∙ q);
+      eqb-false (writing_refusal r room) 13 (first-lacks is_thirteen (writing_rules r room) refl (write_without r room)) (((writes_refused r room n).0 e).0 ∙ q);
 }

@@ -9,7 +9,7 @@ use mathlib.Core.Bool.{Bool, true, false}
 use mathlib.Core.List.{List, [], ◌∷◌}
 use lib.ListN.{length, get_or, take, drop}
 use lib.Dec.{eqb}
-use borrow.Author.Tests.{eqb-true, eqb_false, lt-ltb, le-ltb}
+use borrow.Author.Tests.{eqb-true, eqb-false, lt-ltb, le-ltb}
 use native.Mathlib.Nat.{mod-lt}
 use native.Mathlib.Omega.{arith}
 use Rattle.wire.specs.Bytes.{num, Bytes}
@@ -148,7 +148,7 @@ signal_bounds s n e =
         → (s.network.message_type ≢ 0 → n ≤ 256)
         → n ≤ 256
     by true t few most = omega (arith, few (eqb-true _ _ t))
-    by false t few most = most (eqb_false _ _ t)
+    by false t few most = most (eqb-false _ _ t)
 
 signal-holds : (d : List ℕ) → Met (plain_signal d) → Taken d (a_signal (signal_of d) (body_size d)) (take (body_size d) (drop Numbers.body_start d))
 unfolding signal_of record_rules
@@ -225,7 +225,7 @@ taken d e = by (says_transmitter d) refl
         subst (λ (r : Reading). Taken d r (body_in r d)) (sym (content-transmitter d type))
         (transmitter-holds d ((transmitter-verdict d type).none.0 e))
     by false t =
-        let type = eqb_false _ _ t in
+        let type = eqb-false _ _ t in
         subst (λ (r : Reading). Taken d r (body_in r d)) (sym (content-signal d type))
         (signal-holds d ((signal-verdict d type).none.0 e))
 

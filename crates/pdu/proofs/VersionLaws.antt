@@ -8,7 +8,7 @@ use mathlib.Core.Bool.{Bool, true, false, cond, not, ◌&&◌}
 use mathlib.Core.List.{List, [], ◌∷◌}
 use lib.ListN.{get_or}
 use lib.Dec.{eqb, ltb}
-use borrow.Author.Tests.{eqb-true, eqb_false, eq-eqb, ne_eqb}
+use borrow.Author.Tests.{eqb-true, eqb-false, eq-eqb, ne_eqb}
 use native.Mathlib.Nat.{div-one}
 use native.Mathlib.Omega.{arith}
 use Rattle.wire.specs.Bytes.{num, big, Bytes}
@@ -90,10 +90,10 @@ blank-before d type size b e = rw (e, div-one (num 1 10 d)) (by (eqb (num 1 10 d
         let low : num 1 11 d ≡ 0 = eqb-true _ _ q in
         sym (eq-eqb (num 2 10 d) 0 (omega (arith, b 10)))
     by true p false q =
-        let low : num 1 11 d ≢ 0 = eqb_false _ _ q in
+        let low : num 1 11 d ≢ 0 = eqb-false _ _ q in
         sym (ne_eqb (num 2 10 d) 0 (λ z. low (omega arith)))
     by false p y q =
-        let high : num 1 10 d % 2 ^ 8 ≢ 0 = eqb_false _ _ p in
+        let high : num 1 10 d % 2 ^ 8 ≢ 0 = eqb-false _ _ p in
         sym (ne_eqb (num 2 10 d) 0 (λ z. high (omega arith)))
 
 -- ---- variable parameter records

@@ -10,7 +10,7 @@ use native.Mathlib.Omega.{arith}
 use lib.ListN.{length, take, drop}
 use lib.Seq.{take_at, drop_at}
 use lib.Dec.{eqb}
-use borrow.Author.Tests.{lt-ltb, le-ltb, ltb-true, ltb-false, eqb-true, eqb_false}
+use borrow.Author.Tests.{lt-ltb, le-ltb, ltb-true, ltb-false, eqb-true, eqb-false}
 use Rattle.wire.specs.First.{first}
 use Rattle.wire.proofs.ByteLaws.{splice-start}
 use Rattle.slots.specs.Blocks.{block_size}
@@ -178,7 +178,7 @@ module _ (rates out : List ℕ) where
   kept_behind true e =
       ap (drop (4 * length rates)) (left-written (eqb-true number 0 e))
       ∙ drop_at (plan_of rates) _ _ (length-plan rates (length rates))
-  kept_behind false e = ap (drop (4 * length rates)) (left-refused (eqb_false number 0 e))
+  kept_behind false e = ap (drop (4 * length rates)) (left-refused (eqb-false number 0 e))
 
   -- an answer of a number alone is a refusal
   refused : (n : ℕ) → Says rates out (n ∷ []) → number ≡ 0 → ⊥

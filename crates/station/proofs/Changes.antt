@@ -8,7 +8,7 @@ use mathlib.Core.Bool.{Bool, true, false, true≢false}
 use mathlib.Core.List.{List}
 use mathlib.Core.Logic.{◌⊎◌, inl, inr, ⊎_elim}
 use lib.Dec.{eqb, ltb}
-use borrow.Author.Tests.{eqb-true, eqb_false, ltb-true, ltb-false}
+use borrow.Author.Tests.{eqb-true, eqb-false, ltb-true, ltb-false}
 use native.Mathlib.Omega.{arith}
 use Rattle.occupancy.specs.Places.{held}
 use Rattle.pdu.specs.Reading.{reading}
@@ -34,7 +34,7 @@ same_or_not j i = go (eqb j i) refl
   where
     go : (b : Bool) → eqb j i ≡ b → (j ≡ i) ⊎ (j ≡ i → ⊥)
     go true e = inl (eqb-true j i e)
-    go false e = inr (eqb_false j i e)
+    go false e = inr (eqb-false j i e)
 
 -- one is below the other or not
 pub less_or-not : (j i : ℕ) → (j < i) ⊎ (i ≤ j)

@@ -6,7 +6,7 @@ use mathlib.Core.Path.{◌≡◌, refl, sym, ap, ap₂, ◌∙◌}
 use mathlib.Core.Bool.{Bool, true, false, cond, not, ◌&&◌, ◌||◌, true≢false}
 use mathlib.Core.Logic.{◌⊎◌, inl, inr}
 use lib.Dec.{eqb, ltb}
-use borrow.Author.Tests.{eqb-true, eqb_false, eq-eqb, ltb-true, ltb-false}
+use borrow.Author.Tests.{eqb-true, eqb-false, eq-eqb, ltb-true, ltb-false}
 use native.Mathlib.Omega.{arith}
 use Rattle.station.proofs.ReaderLaws.{both_true}
 use Rattle.occupancy.specs.Places.{places, held, free_place}
@@ -97,7 +97,7 @@ module _ (own sender : ℕ) where
       go true false false x y z f = absurd (true≢false (sym f))
       go false true c x y z f = absurd (true≢false (sym f))
       go false false true x y z f = absurd (true≢false (sym f))
-      go false false false x y z f = (eqb_false _ _ x, eqb_false _ _ y, eqb_false _ _ z)
+      go false false false x y z f = (eqb-false _ _ x, eqb-false _ _ y, eqb-false _ _ z)
 
   pub agree : other_id own sender ≡ false → Agree own sender
   unfolding other_id

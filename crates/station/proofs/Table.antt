@@ -9,7 +9,7 @@ use mathlib.Core.Logic.{inl, inr, ◌↔◌}
 use lib.ListN.{get_or, set, length-set}
 use lib.Seq.{get_or-set_same, get_or-set_other}
 use lib.Dec.{eqb, ltb}
-use borrow.Author.Tests.{eqb-true, eqb_false, eq-eqb, ne_eqb, ltb-true, ltb-false, lt-ltb, le-ltb, leb-false, lt-leb, not-true, not-false}
+use borrow.Author.Tests.{eqb-true, eqb-false, eq-eqb, ne_eqb, ltb-true, ltb-false, lt-ltb, le-ltb, leb-false, lt-leb, not-true, not-false}
 use native.Mathlib.Omega.{arith}
 use Rattle.wire.specs.First.{Refusal, ◌given_when◌}
 use Rattle.station.proofs.ReaderLaws.{both_true}
@@ -290,19 +290,19 @@ module _ (s : Station) (sized : Sized s) where
   message-row d g i e p NetEntry m =
       let says = j00_said g.network.message_type (first_word d) m in
       by_last (Tabled s (datagram d)) s _ _ _ refl
-      (λ b. nothing (not_fine_row g i e p (inl says) (eqb_false _ _ b)))
+      (λ b. nothing (not_fine_row g i e p (inl says) (eqb-false _ _ b)))
       (λ b. joined g i e p says (eqb-true _ _ b) (joined-row s (unit_at s i)))
   message-row d g i e p Ppli m =
       let says = ppli_said g.network.message_type (first_word d) m in
       by_last (Tabled s (datagram d)) s 34 (eqb (unit_at s i).state _) (answering 43 (after_ppli s i)) refl
-      (λ b. nothing (not_fine_row g i e p (inr (inl says)) (eqb_false _ _ b)))
+      (λ b. nothing (not_fine_row g i e p (inr (inl says)) (eqb-false _ _ b)))
       (λ b. positioned g i e p says (eqb-true _ _ b) (positioned_row s i sized p.sender.there.place))
   message-row d g i e p Interrogation m = nothing (asked g i e p (ask_said g.network.message_type (first_word d) m))
   message-row d g i e p TimingReply m =
       let says = reply_said g.network.message_type (first_word d) m in
       let u = unit_at s i in
       by_last (Tabled s (datagram d)) s 34 (eqb u.state _) (cond (counts_for s.own u) (answering 47 (after_timing s)) (answering 44 s)) refl
-      (λ b. nothing (not_fine_row g i e p (inr (inr says)) (eqb_false _ _ b)))
+      (λ b. nothing (not_fine_row g i e p (inr (inr says)) (eqb-false _ _ b)))
       (λ b.
       by_cond (Tabled s (datagram d)) (counts_for s.own u)
       (λ c. counted g i e p says (eqb-true _ _ b) (counting s u c) (counted-row s))
@@ -330,7 +330,7 @@ module _ (s : Station) (sized : Sized s) where
       (λ a.
       let from = sender_known s key (not-false (known s key) a) in
       by_rule (Tabled s (datagram d)) s 32 (not same_net) (r33 ∷ []) out refl
-      (λ b. nothing (other_net g i e from (eqb_false _ _ (not-true same_net b))))
+      (λ b. nothing (other_net g i e from (eqb-false _ _ (not-true same_net b))))
       (λ b.
       let net = eqb-true _ _ (not-false same_net b) in
       by_rule (Tabled s (datagram d)) s 33 (other_id (id_of s) (sender_of s g).id) [] out refl

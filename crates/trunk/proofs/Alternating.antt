@@ -21,7 +21,7 @@ use Rattle.trunk.specs.Line.{Entry, offer_made, send_made, reply_heard, record_h
 use Rattle.trunk.specs.Line.{put_out, put_out_by, Fair}
 use Rattle.trunk.specs.Demand.{count, handover, Demand3}
 use Rattle.trunk.specs.Retries.{alternating, Delivers}
-use Rattle.trunk.specs.declared.Arrival.TheVariants.{Refused as arrival_refused, Delivered, Repeat, Early}
+use Rattle.trunk.specs.declared.Arrival.TheVariants.{Refused as refused_arrival, Delivered, Repeat, Early}
 use Rattle.trunk.proofs.Demand3.{demand3}
 
 -- demand 3 holds after every fair list of further calls
@@ -39,7 +39,7 @@ one_put_out : (e : Entry) → length (put_out_by e) ≤ 1
 one_put_out (offer_made d a store) = omega arith
 one_put_out (send_made i a out) = omega arith
 one_put_out (reply_heard r a) = omega arith
-one_put_out (record_heard r (arrival_refused n) reply out) = omega arith
+one_put_out (record_heard r (refused_arrival n) reply out) = omega arith
 one_put_out (record_heard r (Delivered size answer) reply out) = omega arith
 one_put_out (record_heard r Repeat reply out) = omega arith
 one_put_out (record_heard r Early reply out) = omega arith

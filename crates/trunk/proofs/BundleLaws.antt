@@ -11,7 +11,7 @@ use lib.ListN.{length, take, drop, length-append, length-drop, take-append-drop}
 use lib.Seq.{take_at, drop_at, take_all, length-take-le}
 use lib.Dec.{eqb}
 use native.Mathlib.Omega.{arith}
-use borrow.Author.Tests.{eqb-true, eqb_false, eq-eqb, ne_eqb}
+use borrow.Author.Tests.{eqb-true, eqb-false, eq-eqb, ne_eqb}
 use Rattle.wire.specs.Bytes.{Bytes, splice}
 use Rattle.wire.proofs.FitLaws.{bytes_take, bytes_drop}
 use Rattle.pdu.specs.Forms.{size_of}
@@ -45,8 +45,8 @@ stops d = rw (reader_number d) (by (eqb (refusal d) 0) (eqb (kind_of (reading d)
     by true true e k =
         let taken = eqb-true _ _ e in
         unfit taken (λ t. true≢false (sym k ∙ (type_says d taken).1 t))
-    by true false e k = passes (eqb-true _ _ e) (eqb_false _ _ k)
-    by false b e k = unread (eqb_false _ _ e)
+    by true false e k = passes (eqb-true _ _ e) (eqb-false _ _ k)
+    by false b e k = unread (eqb-false _ _ e)
 
 -- a PDU that nothing stops is taken, and carried
 pub record Passes (d : List ℕ) : Type 0 where
@@ -250,11 +250,11 @@ found (suc n) d h =
         → Found d
     by true b e f rest = found_end d (eqb-true _ _ e)
     by false true e f rest =
-        let some : length d ≢ 0 = eqb_false _ _ e in
+        let some : length d ≢ 0 = eqb-false _ _ e in
         found_next d (omega arith) (eqb-true _ _ f) (rest (eqb-true _ _ f))
     by false false e f rest =
-        let some : length d ≢ 0 = eqb_false _ _ e in
-        found_here d (omega arith) (eqb_false _ _ f)
+        let some : length d ≢ 0 = eqb-false _ _ e in
+        found_here d (omega arith) (eqb-false _ _ f)
 
 -- what ends the walk, where something is left
 stopped : (ps : List (List ℕ)) (left : List ℕ) (n : ℕ) → 0 < length left → stop_of (reading left) ≡ n → n ≢ 0 → Ends ps left n
@@ -288,7 +288,7 @@ walked d = by (eqb (length d) 0) refl
           },
         )
     by false e =
-        let other : length d ≢ 0 = eqb_false _ _ e in
+        let other : length d ≢ 0 = eqb-false _ _ e in
         let some : 0 < length d = omega arith in
         let f = found (length d) d (omega arith) in
         let same = offered_some d some in (
@@ -322,7 +322,7 @@ module _ (p t : List ℕ) (one : OnePdu p) where
   goes_on : stop_of (reading (p ++ t)) ≡ 0
   goes_on =
       ap stop_of read_same
-      ∙ one_stop p (stops p) (passes one.taken (eqb_false _ _ ((type_says p one.taken).1 one.carried)))
+      ∙ one_stop p (stops p) (passes one.taken (eqb-false _ _ ((type_says p one.taken).1 one.carried)))
 
   has-bytes : 0 < length (p ++ t)
   has-bytes = omega (arith, length-append p t, size_is, used_some p one.taken)
@@ -404,7 +404,7 @@ walked_only d ps left n w = by w.ends
         left_by : (b : Bool) → eqb (length left) 0 ≡ b → AsDefined d ps (refusal left)
         left_by true e = by_none d ps left w.parts before (eqb-true _ _ e)
         left_by false e =
-            let other : length left ≢ 0 = eqb_false _ _ e in
+            let other : length left ≢ 0 = eqb-false _ _ e in
             by_stop d ps left w.parts w.each (refusal left) (omega arith) (one_stop left (stops left) (unread h)) h
     by (not_carried taken t) =
         let long : 0 < length left = omega (arith, used_some left taken, used-fits left taken) in

@@ -10,7 +10,7 @@ use mathlib.Core.List.{List, ◌++◌}
 use lib.ListN.{length, drop}
 use lib.Dec.{eqb, ltb}
 use native.Mathlib.Omega.{arith}
-use borrow.Author.Tests.{eqb-true, eqb_false, ltb-true, ltb-false}
+use borrow.Author.Tests.{eqb-true, eqb-false, ltb-true, ltb-false}
 use Rattle.wire.specs.Bytes.{Bytes}
 use Rattle.wire.specs.First.{first}
 use Rattle.wire.specs.Rules.{Met, FirstBroken}
@@ -25,13 +25,13 @@ use Rattle.trunk.specs.Far.{arrival_rules, is_next, count_after, delivered, arri
 use Rattle.trunk.specs.Plain.{plain_offer, plain_send, plain_reply, plain_arrival}
 use Rattle.trunk.specs.declared.Near.{Near}
 use Rattle.trunk.specs.declared.Far.{Far}
-use Rattle.trunk.specs.declared.Offer.TheVariants.{Refused as offer_refused, Taken}
+use Rattle.trunk.specs.declared.Offer.TheVariants.{Refused as refused_offer, Taken}
 use Rattle.trunk.specs.declared.Offered.{Offered}
 use Rattle.trunk.specs.declared.Sending.{Sending}
-use Rattle.trunk.specs.declared.Sent.TheVariants.{Refused as send_refused, Size}
-use Rattle.trunk.specs.declared.Reply.TheVariants.{Refused as reply_refused, Acknowledged}
+use Rattle.trunk.specs.declared.Sent.TheVariants.{Refused as refused_send, Size}
+use Rattle.trunk.specs.declared.Reply.TheVariants.{Refused as refused_reply, Acknowledged}
 use Rattle.trunk.specs.declared.Replied.{Replied}
-use Rattle.trunk.specs.declared.Arrival.TheVariants.{Refused as arrival_refused, Repeat, Early}
+use Rattle.trunk.specs.declared.Arrival.TheVariants.{Refused as refused_arrival, Repeat, Early}
 use Rattle.trunk.specs.declared.Arrived.{Arrived}
 use Rattle.trunk.proofs.RuleLaws.{offer-verdict, send-verdict, reply_verdict, arrival_verdict}
 use Rattle.trunk.proofs.Refused.{reply_kept, output_kept}
@@ -42,7 +42,7 @@ use Rattle.trunk.proofs.Refused.{reply_kept, output_kept}
 pub data OfferOutcome (near : Near) (store d : List ℕ) : Offered → List ℕ → Type 0 where
   offer_refused : (n : ℕ)
       → FirstBroken n (plain_offer near store (bundle_stop d) (length (bundle d)))
-      → OfferOutcome near store d (record { near = near; answer = offer_refused n }) store
+      → OfferOutcome near store d (record { near = near; answer = refused_offer n }) store
   offer_taken : Met (plain_offer near store (bundle_stop d) (length (bundle d)))
       → OfferOutcome near store d
       (record { near = more_accepted near (length (bundle d)); answer = Taken near.accepted })
@@ -57,7 +57,7 @@ offer_outcome near store d = by (eqb (first (offer_rules near store d)) 0) refl
 
     by : (b : Bool) → eqb (first (offer_rules near store d)) 0 ≡ b → OfferOutcome near store d (offered near store d) (store_after near store d)
     by true e = rw e (offer_taken (v.none.0 (eqb-true _ _ e)))
-    by false e = rw e (offer_refused _ ((v.some _).0 (refl, eqb_false _ _ e)))
+    by false e = rw e (offer_refused _ ((v.some _).0 (refl, eqb-false _ _ e)))
 
 -- ---- sending
 
@@ -65,7 +65,7 @@ offer_outcome near store d = by (eqb (first (offer_rules near store d)) 0) refl
 pub data SendOutcome (near : Near) (store : List ℕ) (i : ℕ) (out : List ℕ) : Sending → List ℕ → Type 0 where
   send_refused : (n : ℕ)
       → FirstBroken n (plain_send near store i (length out))
-      → SendOutcome near store i out (record { near = near; answer = send_refused n }) out
+      → SendOutcome near store i out (record { near = near; answer = refused_send n }) out
   send_taken : Met (plain_send near store i (length out))
       → SendOutcome near store i out
       (record { near = near; answer = Size (record_size (row_kind store i)) })
@@ -85,7 +85,7 @@ send_outcome near store i out = by (eqb (first (send_rules near store i (length 
         → eqb (first (send_rules near store i (length out))) 0 ≡ b
         → SendOutcome near store i out (sent near store i (length out)) (sent_out near store i out)
     by true e = rw e (send_taken (v.none.0 (eqb-true _ _ e)))
-    by false e = rw e (send_refused _ ((v.some _).0 (refl, eqb_false _ _ e)))
+    by false e = rw e (send_refused _ ((v.some _).0 (refl, eqb-false _ _ e)))
 
 -- ---- taking a reply
 
@@ -103,7 +103,7 @@ after_is_max count number = by (ltb number count) refl
 
 -- a reply's answer with the near end after it
 pub data ReplyOutcome (near : Near) (r : List ℕ) : Replied → Type 0 where
-  reply_refused : (n : ℕ) → FirstBroken n (plain_reply near r) → ReplyOutcome near r (record { near = near; answer = reply_refused n })
+  reply_refused : (n : ℕ) → FirstBroken n (plain_reply near r) → ReplyOutcome near r (record { near = near; answer = refused_reply n })
   reply_taken : Met (plain_reply near r)
       → ReplyOutcome near r
       (record {
@@ -120,7 +120,7 @@ reply_outcome near r = by (eqb (first (reply_rules near r)) 0) refl
 
     by : (b : Bool) → eqb (first (reply_rules near r)) 0 ≡ b → ReplyOutcome near r (replied near r)
     by true e = rw e (reply_taken (v.none.0 (eqb-true _ _ e)))
-    by false e = rw e (reply_refused _ ((v.some _).0 (refl, eqb_false _ _ e)))
+    by false e = rw e (reply_refused _ ((v.some _).0 (refl, eqb-false _ _ e)))
 
 -- ---- a record at the far end
 
@@ -131,7 +131,7 @@ next_number k number e = eqb-true number k e
 
 other-number : (k number : ℕ) → is_next k number ≡ false → number ≢ k
 unfolding is_next
-other-number k number e = eqb_false number k e
+other-number k number e = eqb-false number k e
 
 -- k grows by one with the next number, and with no other
 count_next_lem : (k number : ℕ) → is_next k number ≡ true → count_after k number ≡ k + 1
@@ -146,7 +146,7 @@ count-stays k number e = rw e
 pub data ArrivalOutcome (far : Far) (r reply out : List ℕ) : Arrived → List ℕ → List ℕ → Type 0 where
   arrival_refused : (n : ℕ)
       → FirstBroken n (plain_arrival r (length reply) (length out))
-      → ArrivalOutcome far r reply out (record { far = far; answer = arrival_refused n }) reply out
+      → ArrivalOutcome far r reply out (record { far = far; answer = refused_arrival n }) reply out
   arrival_delivered : Met (plain_arrival r (length reply) (length out))
       → number_in r ≡ far.count
       → ArrivalOutcome far r reply out
@@ -200,7 +200,7 @@ arrival_outcome far r reply out b = by (eqb (first (arrival_rules r (length repl
     by true e = placed_by (is_next far.count (number_in r)) (ltb (number_in r) far.count) refl refl e
     by false e =
         rw (output_kept far r (length reply) out e, reply_kept far r reply (length out) e, e)
-        (arrival_refused _ ((v.some _).0 (refl, eqb_false _ _ e)))
+        (arrival_refused _ ((v.some _).0 (refl, eqb-false _ _ e)))
 
 -- ---- calls that break no rule
 

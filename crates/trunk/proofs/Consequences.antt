@@ -19,8 +19,8 @@ use Rattle.trunk.specs.Line.{Line, start, step, run, accepted, put_out, put_out_
 use Rattle.trunk.specs.Demand.{given, given_by, count}
 use Rattle.trunk.specs.Consequences.{datagrams, WasOffered, Consequences}
 use Rattle.trunk.specs.declared.Offer.{Offer}
-use Rattle.trunk.specs.declared.Offer.TheVariants.{Refused as offer_refused, Taken}
-use Rattle.trunk.specs.declared.Arrival.TheVariants.{Refused as arrival_refused, Delivered, Repeat, Early}
+use Rattle.trunk.specs.declared.Offer.TheVariants.{Refused as refused_offer, Taken}
+use Rattle.trunk.specs.declared.Arrival.TheVariants.{Refused as refused_arrival, Delivered, Repeat, Early}
 use Rattle.trunk.proofs.Demand3.{demand3}
 
 -- ---- each order once
@@ -35,7 +35,7 @@ entry-heard : (e : Entry) → datagrams (events_by e) ≡ put_out_by e
 entry-heard (offer_made d a store) = refl
 entry-heard (send_made i a out) = refl
 entry-heard (reply_heard r a) = refl
-entry-heard (record_heard r (arrival_refused n) reply out) = refl
+entry-heard (record_heard r (refused_arrival n) reply out) = refl
 entry-heard (record_heard r (Delivered size answer) reply out) = refl
 entry-heard (record_heard r Repeat reply out) = refl
 entry-heard (record_heard r Early reply out) = refl
@@ -58,7 +58,7 @@ Came p log =
 
 here : (p : List ℕ) (log : List Entry) (e : Entry) → Memᴰ p (map padding_zero (given_by e)) → Came p (e ∷ log)
 unfolding Came
-here p log (offer_made d (offer_refused n) store) m = absurd (Memᴰ.not-nil m)
+here p log (offer_made d (refused_offer n) store) m = absurd (Memᴰ.not-nil m)
 here p log (offer_made d (Taken i) store) m =
     let (q, inside, form) = Memᴰ.of_map padding_zero (bundle d) m in
     (d, i, store, Memᴰ.head refl, (q, inside, sym form))

@@ -10,7 +10,7 @@ use lib.ListN.{length, take, drop, length-take, length-drop}
 use lib.Dec.{eqb}
 use native.Mathlib.Nat.{add-sub_cancel_left}
 use native.Mathlib.Omega.{arith}
-use borrow.Author.Tests.{eqb-true, eqb_false, ne_eqb, ltb-false, lt-ltb, le-ltb, not-false}
+use borrow.Author.Tests.{eqb-true, eqb-false, ne_eqb, ltb-false, lt-ltb, le-ltb, not-false}
 use Rattle.wire.specs.Bytes.{splice}
 use Rattle.wire.specs.First.{Refusal, ◌given_when◌, first}
 use Rattle.wire.proofs.ByteLaws.{splice-start}
@@ -33,7 +33,7 @@ stop_passes n rest e = go (eqb n 0) refl e
   where
     go : (b : Bool) → eqb n 0 ≡ b → cond (not b) n (first rest) ≡ 0 → (n ≡ 0) × (first rest ≡ 0)
     go true z r = (eqb-true n 0 z, r)
-    go false z r = absurd (eqb_false n 0 z r)
+    go false z r = absurd (eqb-false n 0 z r)
 
 -- ---- a record's form
 
@@ -153,7 +153,7 @@ last-not : (r : List ℕ) → is_reply r ≡ false → first (pdu_rules r) ≡ 0
 unfolding pdu_rules last_of_all
 last-not r pdu e =
     let (last, carried) = unbroken (pdu_rules r) refl e in
-    eqb_false _ _ (sym (ap (λ (b : Bool). not b && eqb (number_in r) last_number) pdu) ∙ last)
+    eqb-false _ _ (sym (ap (λ (b : Bool). not b && eqb (number_in r) last_number) pdu) ∙ last)
 
 pub arrival_fits : (r : List ℕ) (replyRoom room : ℕ) → first (arrival_rules r replyRoom room) ≡ 0 → ArrivalFits r replyRoom room
 unfolding arrival_rules

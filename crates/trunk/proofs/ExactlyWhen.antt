@@ -8,7 +8,7 @@ use mathlib.Core.Bool.{Bool, true, false}
 use mathlib.Core.List.{List, [], ◌∷◌, ◌++◌}
 use lib.ListN.{length, get_or}
 use lib.Dec.{eqb}
-use borrow.Author.Tests.{eqb-true, eqb_false}
+use borrow.Author.Tests.{eqb-true, eqb-false}
 use native.Mathlib.Omega.{arith}
 use Rattle.wire.specs.Bytes.{num, Bytes}
 use Rattle.wire.specs.First.{Refusal, first}
@@ -22,17 +22,17 @@ use Rattle.trunk.specs.Near.{row_kind, acknowledged_after, offer_says, send_says
 use Rattle.trunk.specs.Far.{arrived, arrival_says}
 use Rattle.trunk.specs.Exactly.{AnswerExactly, SliceExactly, OfferExactly, SendExactly, ReplyExactly, ArriveExactly, CheckExactly, AnswersSay}
 use Rattle.trunk.specs.Plain.{joined, plain_offer, plain_send, plain_reply, plain_arrival, plain_check}
-use Rattle.trunk.specs.declared.Checked.TheVariants.{Refused as check_refused, Reply as a_reply, Pdu}
+use Rattle.trunk.specs.declared.Checked.TheVariants.{Refused as refused_check, Reply as a_reply, Pdu}
 use Rattle.trunk.specs.declared.Near.{Near}
 use Rattle.trunk.specs.declared.Far.{Far}
-use Rattle.trunk.specs.declared.Offer.TheVariants.{Refused as offer_refused, Taken}
+use Rattle.trunk.specs.declared.Offer.TheVariants.{Refused as refused_offer, Taken}
 use Rattle.trunk.specs.declared.Offered.{Offered}
 use Rattle.trunk.specs.declared.Sending.{Sending}
-use Rattle.trunk.specs.declared.Sent.TheVariants.{Refused as send_refused, Size}
-use Rattle.trunk.specs.declared.Reply.TheVariants.{Refused as reply_refused, Acknowledged}
+use Rattle.trunk.specs.declared.Sent.TheVariants.{Refused as refused_send, Size}
+use Rattle.trunk.specs.declared.Reply.TheVariants.{Refused as refused_reply, Acknowledged}
 use Rattle.trunk.specs.declared.Replied.{Replied}
 use Rattle.trunk.specs.declared.Arrival.{Arrival}
-use Rattle.trunk.specs.declared.Arrival.TheVariants.{Refused as arrival_refused, Delivered, Repeat, Early}
+use Rattle.trunk.specs.declared.Arrival.TheVariants.{Refused as refused_arrival, Delivered, Repeat, Early}
 use Rattle.trunk.specs.declared.Arrived.{Arrived}
 use Rattle.trunk.proofs.KindLaws.{plain_length_lem, reply_says_lem, no-reply_says}
 use Rattle.trunk.proofs.BundleLaws.{walked, walked_only, left_only}
@@ -66,7 +66,7 @@ clash ps v n f m = let x = (v.some n).1 f in x.1 (sym x.0 ∙ v.none.1 m)
 
 -- ---- offering
 
-offer-no-taken : (n i : ℕ) → offer_refused n ≢ Taken i
+offer-no-taken : (n i : ℕ) → refused_offer n ≢ Taken i
 offer-no-taken n i e = let z : ◌≡◌ {A = ℕ} 0 1 = cc in omega arith
 
 same_taken : (i j : ℕ) → Taken j ≡ Taken i → i ≡ j
@@ -80,7 +80,7 @@ offer_exactly near store d (offer_refused m f) =
     let v = offer-verdict near store (bundle_stop d) (length (bundle d)) in
     let rules = plain_offer near store (bundle_stop d) (length (bundle d)) in
     record {
-      refused = refused_as offer_refused offer_says (λ n. refl) rules v m f;
+      refused = refused_as refused_offer offer_says (λ n. refl) rules v m f;
       taken = λ i. neither_holds (offer-no-taken m i) (λ x. clash rules v m f x.0);
     }
 offer_exactly near store d (offer_taken met) =
@@ -116,7 +116,7 @@ offer_exactly_when near store d =
 
 -- ---- sending
 
-send-no-size : (n m : ℕ) → send_refused n ≢ Size m
+send-no-size : (n m : ℕ) → refused_send n ≢ Size m
 send-no-size n m e = let z : ◌≡◌ {A = ℕ} 0 1 = cc in omega arith
 
 same_size : (i j : ℕ) → Size j ≡ Size i → i ≡ j
@@ -130,7 +130,7 @@ send_exactly near store i out (send_refused m f) =
     let v = send-verdict near store i (length out) in
     let rules = plain_send near store i (length out) in
     record {
-      refused = refused_as send_refused send_says (λ n. refl) rules v m f;
+      refused = refused_as refused_send send_says (λ n. refl) rules v m f;
       size = λ n. neither_holds (send-no-size m n) (λ x. clash rules v m f x.0);
     }
 send_exactly near store i out (send_taken met) =
@@ -150,7 +150,7 @@ send_exactly_when near store i out = send_exactly near store i out (send_outcome
 
 -- ---- taking a reply
 
-reply_no-count : (n m : ℕ) → reply_refused n ≢ Acknowledged m
+reply_no-count : (n m : ℕ) → refused_reply n ≢ Acknowledged m
 reply_no-count n m e = let z : ◌≡◌ {A = ℕ} 0 1 = cc in omega arith
 
 same_count : (i j : ℕ) → Acknowledged j ≡ Acknowledged i → i ≡ j
@@ -160,7 +160,7 @@ reply_exactly : (near : Near) (r : List ℕ) {o : Replied} → ReplyOutcome near
 reply_exactly near r (reply_refused m f) =
     let v = reply_verdict near r in
     record {
-      refused = refused_as reply_refused reply_says (λ n. refl) (plain_reply near r) v m f;
+      refused = refused_as refused_reply reply_says (λ n. refl) (plain_reply near r) v m f;
       acknowledged = λ n. neither_holds (reply_no-count m n) (λ x. clash (plain_reply near r) v m f x.0);
     }
 reply_exactly near r (reply_taken met) =
@@ -180,7 +180,7 @@ reply_exactly_when near r = reply_exactly near r (reply_outcome near r)
 
 -- answers of two kinds differ
 which : Arrival → ℕ
-which (arrival_refused n) = 0
+which (refused_arrival n) = 0
 which (Delivered size answer) = 1
 which Repeat = 2
 which Early = 3
@@ -202,17 +202,17 @@ arrive_exactly far r reply out b (arrival_refused m f) =
     let v = arrival_verdict r b (length reply) (length out) in
     let rules = plain_arrival r (length reply) (length out) in
     record {
-      refused = refused_as arrival_refused arrival_says (λ n. refl) rules v m f;
-      delivered = λ size answer. neither_holds (differ (arrival_refused m) (Delivered size answer) (λ t. omega arith)) (λ x. clash rules v m f x.0);
-      repeat = neither_holds (differ (arrival_refused m) Repeat (λ t. omega arith)) (λ x. clash rules v m f x.0);
-      early = neither_holds (differ (arrival_refused m) Early (λ t. omega arith)) (λ x. clash rules v m f x.0);
+      refused = refused_as refused_arrival arrival_says (λ n. refl) rules v m f;
+      delivered = λ size answer. neither_holds (differ (refused_arrival m) (Delivered size answer) (λ t. omega arith)) (λ x. clash rules v m f x.0);
+      repeat = neither_holds (differ (refused_arrival m) Repeat (λ t. omega arith)) (λ x. clash rules v m f x.0);
+      early = neither_holds (differ (refused_arrival m) Early (λ t. omega arith)) (λ x. clash rules v m f x.0);
     }
 arrive_exactly far r reply out b (arrival_delivered met same) =
     let v = arrival_verdict r b (length reply) (length out) in
     let rules = plain_arrival r (length reply) (length out) in
     let this : Arrival = Delivered (length (carried_in r)) (heard far.station (carried_in r)).answer in
     record {
-      refused = λ n. neither_holds (differ this (arrival_refused n) (λ t. omega arith)) (λ f. clash rules v n f met);
+      refused = λ n. neither_holds (differ this (refused_arrival n) (λ t. omega arith)) (λ f. clash rules v n f met);
       delivered = λ size answer. (
         (λ e. let x = same_delivered size (length (carried_in r)) answer (heard far.station (carried_in r)).answer e in (met, same, x.0, x.1)),
         (λ x. ap₂ Delivered (sym x.2) (sym x.3)),
@@ -224,7 +224,7 @@ arrive_exactly far r reply out b (arrival_repeat met below) =
     let v = arrival_verdict r b (length reply) (length out) in
     let rules = plain_arrival r (length reply) (length out) in
     record {
-      refused = λ n. neither_holds (differ Repeat (arrival_refused n) (λ t. omega arith)) (λ f. clash rules v n f met);
+      refused = λ n. neither_holds (differ Repeat (refused_arrival n) (λ t. omega arith)) (λ f. clash rules v n f met);
       delivered = λ size answer. neither_holds (differ Repeat (Delivered size answer) (λ t. omega arith)) (λ x. omega (arith, x.1));
       repeat = (λ e. (met, below), λ x. refl);
       early = neither_holds (differ Repeat Early (λ t. omega arith)) (λ x. omega (arith, x.1));
@@ -233,7 +233,7 @@ arrive_exactly far r reply out b (arrival_early met above) =
     let v = arrival_verdict r b (length reply) (length out) in
     let rules = plain_arrival r (length reply) (length out) in
     record {
-      refused = λ n. neither_holds (differ Early (arrival_refused n) (λ t. omega arith)) (λ f. clash rules v n f met);
+      refused = λ n. neither_holds (differ Early (refused_arrival n) (λ t. omega arith)) (λ f. clash rules v n f met);
       delivered = λ size answer. neither_holds (differ Early (Delivered size answer) (λ t. omega arith)) (λ x. omega (arith, x.1));
       repeat = neither_holds (differ Early Repeat (λ t. omega arith)) (λ x. omega (arith, x.1));
       early = (λ e. (met, above), λ x. refl);
@@ -248,10 +248,10 @@ arrive_exactly_when far r reply out b = arrive_exactly far r reply out b (arriva
 
 -- ---- the check of a record
 
-check-no_pdu : (n kind number size : ℕ) → check_refused n ≢ Pdu kind number size
+check-no_pdu : (n kind number size : ℕ) → refused_check n ≢ Pdu kind number size
 check-no_pdu n kind number size e = let z : ◌≡◌ {A = ℕ} 0 1 = cc in omega arith
 
-check-no_reply : (n number size : ℕ) → check_refused n ≢ a_reply number size
+check-no_reply : (n number size : ℕ) → refused_check n ≢ a_reply number size
 check-no_reply n number size e = let z : ◌≡◌ {A = ℕ} 0 1 = cc in omega arith
 
 reply_no_pdu : (a b kind number size : ℕ) → a_reply a b ≢ Pdu kind number size
@@ -301,10 +301,10 @@ check_exactly_when r b = by (eqb (first (check_rules r)) 0) refl (is_nothing (lo
         }
     by false some u reply =
         let m : ℕ = first (check_rules r) in
-        let f : FirstBroken m (plain_check r) = (v.some m).0 (refl, eqb_false _ _ some) in
+        let f : FirstBroken m (plain_check r) = (v.some m).0 (refl, eqb-false _ _ some) in
         subst (CheckExactly r) (sym (rw some))
         record {
-          refused = refused_as check_refused checked_says (λ n. refl) (plain_check r) v m f;
+          refused = refused_as refused_check checked_says (λ n. refl) (plain_check r) v m f;
           reply = λ number size. neither_holds (check-no_reply m number size) (λ x. clash (plain_check r) v m f x.0);
           pdu = λ k number size. neither_holds (check-no_pdu m k number size) (λ x. clash (plain_check r) v m f x.0);
         }

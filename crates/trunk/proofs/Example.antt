@@ -38,12 +38,12 @@ use Rattle.trunk.specs.Line.{Entry, offer_made, send_made, reply_heard, record_h
 use Rattle.trunk.specs.Line.{Line, start, step, run, collect, accepted, acknowledged, written, Allowed, Fair}
 use Rattle.trunk.specs.Demand.{count, Demand3}
 use Rattle.trunk.specs.declared.Offer.{Offer}
-use Rattle.trunk.specs.declared.Offer.TheVariants.{Refused as offer_refused, Taken}
+use Rattle.trunk.specs.declared.Offer.TheVariants.{Refused as refused_offer, Taken}
 use Rattle.trunk.specs.declared.Sent.{Sent}
-use Rattle.trunk.specs.declared.Sent.TheVariants.{Refused as send_refused, Size}
+use Rattle.trunk.specs.declared.Sent.TheVariants.{Refused as refused_send, Size}
 use Rattle.trunk.specs.declared.Reply.{Reply}
-use Rattle.trunk.specs.declared.Reply.TheVariants.{Refused as reply_refused, Acknowledged}
-use Rattle.trunk.specs.declared.Arrival.TheVariants.{Refused as arrival_refused, Delivered, Repeat, Early}
+use Rattle.trunk.specs.declared.Reply.TheVariants.{Refused as refused_reply, Acknowledged}
+use Rattle.trunk.specs.declared.Arrival.TheVariants.{Refused as refused_arrival, Delivered, Repeat, Early}
 use Rattle.trunk.proofs.Demand3.{demand3}
 
 -- ---- a test of fairness
@@ -173,7 +173,7 @@ unfoldable pub said : Entry → Said
 said (offer_made d a store) = offer_said a
 said (send_made i a out) = send_said a
 said (reply_heard r a) = reply_said a
-said (record_heard r (arrival_refused n) reply out) = refused_at_far n
+said (record_heard r (refused_arrival n) reply out) = refused_at_far n
 said (record_heard r (Delivered size answer) reply out) = delivered_said size answer
 said (record_heard r Repeat reply out) = repeat_said
 said (record_heard r Early reply out) = early_said
@@ -200,14 +200,14 @@ record_2 = record_of (head_for 18 2) (timing 0 5)
 unfoldable pub story : List (Call × Said)
 story =
     (offer (unit 5 ++ entry-message ++ timing 255 253), offer_said (Taken 0))  -- a bundle of three: numbers 0, 1 and 2
-    ∷ (offer (zeros 11), offer_said (offer_refused 1))
-    ∷ (offer (order ++ zeros 11), offer_said (offer_refused 1))  -- what stands behind the first PDU is none: nothing is taken
+    ∷ (offer (zeros 11), offer_said (refused_offer 1))
+    ∷ (offer (order ++ zeros 11), offer_said (refused_offer 1))  -- what stands behind the first PDU is none: nothing is taken
     ∷ (offer order, offer_said (Taken 3))
-    ∷ (offer (orders 9), offer_said (offer_refused 51))
-    ∷ (offer (orders 5), offer_said (offer_refused 24))  -- four rows are free
+    ∷ (offer (orders 9), offer_said (refused_offer 51))
+    ∷ (offer (orders 5), offer_said (refused_offer 24))  -- four rows are free
     ∷ (sending 1, send_said (Size 73))
     ∷ (arriving record_1, early_said)  -- number 1 before number 0; its reply is lost
-    ∷ (send 0 (zeros 116), send_said (send_refused 16))
+    ∷ (send 0 (zeros 116), send_said (refused_send 16))
     ∷ (sending 0, send_said (Size 117))
     ∷ (arriving record_0, delivered_said 112 40)
     ∷ (arriving record_0, repeat_said)  -- the same record again
@@ -215,8 +215,8 @@ story =
     ∷ (arriving record_1, delivered_said 68 42)  -- both levels are 4: the station is Coarse
     ∷ (to_near (reply_of 2), reply_said (Acknowledged 2))
     ∷ (to_near (reply_of 1), reply_said (Acknowledged 2))  -- a late reply
-    ∷ (to_near record_0, reply_said (reply_refused 29))
-    ∷ (sending 0, send_said (send_refused 26))
+    ∷ (to_near record_0, reply_said (refused_reply 29))
+    ∷ (sending 0, send_said (refused_send 26))
     ∷ (sending 2, send_said (Size 65))
     ∷ (to_far record_2 (zeros 4) (zeros 180), refused_at_far 16)  -- no room for the reply
     ∷ (arriving record_2, delivered_said 60 47)  -- handed over again, with room: it counts, and the station is Fine; its reply is lost

@@ -13,7 +13,7 @@ use lib.Seq.{length-sets, take_at, take-suc, take-append-le, get_or-append_seam}
 use lib.Dec.{ltb}
 use native.Mathlib.Numerals.{add-one}
 use native.Mathlib.Omega.{arith}
-use borrow.Author.Tests.{ltb-true, ltb-false, eqb_false}
+use borrow.Author.Tests.{ltb-true, ltb-false, eqb-false}
 use Rattle.wire.specs.Bytes.{Bytes}
 use Rattle.pdu.specs.Reading.{reading}
 use Rattle.pdu.specs.Writing.{written_form}
@@ -458,7 +458,7 @@ unfolding stored_all
 bundle-keeps {station} {near} {store} {far} {v} h [] bytes all whole numbers free =
     subst₂ (λ (n : Near) (s : Seen). Holds station n store far s) (sym (more_none near)) (sym (accepts_none v)) h
 bundle-keeps {station} {near} {store} {far} {v} h (p ∷ ps) (b, bytes) (one, all) whole numbers free =
-    let kind = eqb_false _ _ ((type_says p one.taken).1 one.carried) in
+    let kind = eqb-false _ _ ((type_says p one.taken).1 one.carried) in
     let fits : OneFits near store = record { whole = whole; more = omega arith; free = omega arith } in
     let full = length-sets store (row_start near.accepted) (offer_record near.accepted p) ∙ whole in
     let qs : List (List ℕ) = map written_form ps in

@@ -9,7 +9,7 @@ use mathlib.Core.List.{List, [], ◌∷◌}
 use lib.ListN.{length, get_or, get_or-eq_default}
 use lib.Dec.{eqb, leb}
 use native.Mathlib.Omega.{arith}
-use borrow.Author.Tests.{eqb-true, eqb_false, ne_eqb, leb-true, leb-false, le-leb}
+use borrow.Author.Tests.{eqb-true, eqb-false, ne_eqb, leb-true, leb-false, le-leb}
 use Rattle.wire.proofs.TableLaws.{both_true}
 use Rattle.trunk.specs.Head.{head_size}
 use Rattle.trunk.specs.Kinds.{KindRow, signals, transmitters, interrogations, timing_replies, replies, in_row, load, load_size, record_size}
@@ -72,7 +72,7 @@ equals m n = by (eqb m n) refl
   where
     by : (b : Bool) → eqb m n ≡ b → (m ≡ n) ⊎ (m ≢ n)
     by true e = inl (eqb-true m n e)
-    by false e = inr (eqb_false m n e)
+    by false e = inr (eqb-false m n e)
 
 known-or-not : (kind : ℕ) → KnownKind kind ⊎ ¬ KnownKind kind
 known-or-not kind = or-not (up_to kind _) (or-not (equals kind _) (or-not (equals kind _) (or-not (equals kind _) (equals kind _))))

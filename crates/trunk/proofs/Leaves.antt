@@ -8,7 +8,7 @@ use mathlib.Core.List.{List, [], ◌∷◌, ◌++◌}
 use lib.ListN.{length, take, drop}
 use lib.Seq.{length-sets, sets-eq}
 use native.Mathlib.Omega.{arith}
-use borrow.Author.Tests.{eqb_false}
+use borrow.Author.Tests.{eqb-false}
 use Rattle.wire.specs.Bytes.{num, Bytes}
 use Rattle.wire.specs.Rules.{Met}
 use Rattle.pdu.specs.Reading.{reading}
@@ -48,7 +48,7 @@ fresh settings = record { accepted = refl; acknowledged = refl; count = refl; st
 
 module _ (number : ℕ) (p : List ℕ) (one : OnePdu p) where
   carried : kind_of (reading p) ≢ no_kind
-  carried = eqb_false _ _ ((type_says p one.taken).1 one.carried)
+  carried = eqb-false _ _ ((type_says p one.taken).1 one.carried)
 
   -- what is written of a PDU is kind, number, and its bytes with padding zero
   plain_offer_lem : offer_record number p ≡ record_with (plain_kind (reading p)) number (padding_zero p)

@@ -6,14 +6,14 @@ use Prim.Native.Nat.{ℕ, ◌+◌, ◌%◌, ◌≤◌, ◌<◌}
 use mathlib.Core.Path.{◌≡◌, refl, sym, ap, subst, ◌∙◌}
 use mathlib.Core.Logic.Iff
 use mathlib.Core.Logic.{◌↔◌, ◌≢◌, inl, inr}
-use mathlib.Core.Bool.{Bool, true, false, not, ◌&&◌, and_false}
+use mathlib.Core.Bool.{Bool, true, false, not, ◌&&◌, and-false}
 use mathlib.Core.List.{List, [], ◌++◌}
 use lib.ListN.{length, take, length-append}
 use lib.Seq.{take_at, drop_at}
 use lib.Dec.{eqb}
 use native.Mathlib.Nat.{zero-add}
 use native.Mathlib.Omega.{arith}
-use borrow.Author.Tests.{eqb-true, eqb_false, eq-eqb, ne_eqb}
+use borrow.Author.Tests.{eqb-true, eqb-false, eq-eqb, ne_eqb}
 use Rattle.wire.specs.Bytes.{Bytes}
 use Rattle.wire.specs.Table.{Fit}
 use Rattle.wire.proofs.TableLaws.{read-fill, length-fill}
@@ -106,8 +106,8 @@ below_type type h = by (eqb type 0) (eqb type 1) refl refl
     by true b x y = words_type (eqb-true type 0 x)
     by false true x y = ask_type (eqb-true type 1 y)
     by false false x y =
-        let some : type ≢ 0 = eqb_false type 0 x in
-        let more : type ≢ 1 = eqb_false type 1 y in
+        let some : type ≢ 0 = eqb-false type 0 x in
+        let more : type ≢ 1 = eqb-false type 1 y in
         answer_type (omega arith)
 
 pub carried_kind : (d : List ℕ) → kind_of (reading d) ≢ no_kind → CarriedKind d
@@ -148,7 +148,7 @@ carried_kind d h = by (reading d) refl h
 -- ---- 23, of a datagram that is taken
 
 pub type_says : (d : List ℕ) → refusal d ≡ 0 → (eqb (kind_of (reading d)) no_kind ≡ false) ↔ TypeRule d
-type_says d z = Iff.trans (eqb_false _ _, ne_eqb _ _) (typed, carried)
+type_says d z = Iff.trans (eqb-false _ _, ne_eqb _ _) (typed, carried)
   where
     typed : kind_of (reading d) ≢ no_kind → TypeRule d
     typed h s n e = type_below (carried_type _ n (λ k. h (ap kind_of e ∙ k)))
@@ -325,11 +325,11 @@ module _ (number : ℕ) (pdu : List ℕ) (c : Carried pdu) (h : number < last_nu
   pdu_sound =
       let k = carried_kind pdu c.kind in
       record {
-        known = rw (pdu_kind, k.known, and_false);
+        known = rw (pdu_kind, k.known, and-false);
         sized = rw pdu_kind (ap not (eq-eqb _ _ pdu_length));
         no_reply = rw (pdu_kind, k.no_reply);
-        not_last = rw (pdu_number, ne_eqb number last_number (λ e. omega arith), and_false);
-        right = rw (pdu_kind, pdu_carried, c.form, eq-eqb (kind_of (reading pdu)) _ refl, and_false);
+        not_last = rw (pdu_number, ne_eqb number last_number (λ e. omega arith), and-false);
+        right = rw (pdu_kind, pdu_carried, c.form, eq-eqb (kind_of (reading pdu)) _ refl, and-false);
       }
 
 -- a reply breaks neither 20 nor 21, and is a reply with its number
@@ -349,7 +349,7 @@ reply_sound number h =
     let head = head_read (head_for reply_kind number) [] (head_fits reply_kind number (omega arith) h) in
     let kind = ap (λ (x : Head). x.kind) head in
     record {
-      known = rw (kind, and_false);
+      known = rw (kind, and-false);
       sized = rw (kind, length_reply number);
       reply = rw kind;
       kind_is = kind;

@@ -10,7 +10,7 @@ use mathlib.Core.List.{List, ◌∷◌}
 use lib.ListN.{length}
 use lib.Dec.{eqb}
 use native.Mathlib.Omega.{arith}
-use borrow.Author.Tests.{le-ltb, not-true, eqb_false, ne_eqb, ltb-true, ltb-false, lt-ltb}
+use borrow.Author.Tests.{le-ltb, not-true, eqb-false, ne_eqb, ltb-true, ltb-false, lt-ltb}
 use Rattle.wire.specs.Bytes.{num, Bytes}
 use Rattle.wire.specs.First.{Refusal, ◌given_when◌, first}
 use Rattle.wire.proofs.FitLaws.{bytes_drop}
@@ -32,7 +32,7 @@ use Rattle.trunk.proofs.RecordLaws.{carried_says_lem, Sound, SoundReply}
 
 -- a number that differs
 differs : (m n : ℕ) → (eqb m n ≡ false) ↔ (m ≢ n)
-differs m n = (eqb_false m n, ne_eqb m n)
+differs m n = (eqb-false m n, ne_eqb m n)
 
 store_says : (store : List ℕ) → (wrong_store (length store) ≡ false) ↔ StoreRule store
 store_says store = negated _ (equal _ _)
@@ -118,7 +118,7 @@ pub offer-verdict :
 unfolding offer_rules_of
 offer-verdict near store stop pdus =
     one_more (λ b e. omega arith) (store_says store)
-    (λ whole. one_more (λ b. eqb_false _ _ (not-true _ b)) (negated _ (equal _ _))
+    (λ whole. one_more (λ b. eqb-false _ _ (not-true _ b)) (negated _ (equal _ _))
     (λ none. verdict
     (not_below _ _
     then λ few. not_below _ _

@@ -7,7 +7,7 @@ use mathlib.Core.Logic.{◌≢◌, ◌⊎◌, inl, inr}
 use mathlib.Core.Bool.{Bool, true, false}
 use mathlib.Core.List.{List}
 use lib.Dec.{eqb}
-use borrow.Author.Tests.{eqb-true, eqb_false}
+use borrow.Author.Tests.{eqb-true, eqb-false}
 use native.Mathlib.Omega.{arith}
 use Rattle.wire.specs.Rules.{FirstBroken}
 use Rattle.pdu.specs.Plain.{LiveRule}
@@ -40,7 +40,7 @@ two_left type high (three, four, five) low = by (eqb type 6) refl
     by : (b : Bool) → eqb type 6 ≡ b → (type ≡ 6) ⊎ (type ≡ 7)
     by true e = inl (eqb-true _ _ e)
     by false e =
-        let six : type ≢ 6 = eqb_false _ _ e in
+        let six : type ≢ 6 = eqb-false _ _ e in
         inr (omega arith)
 
 -- a slice that 23 stops: what is left begins with a Signal that is read and not carried, since the reader never gives 23

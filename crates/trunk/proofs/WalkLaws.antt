@@ -10,7 +10,7 @@ use lib.ListN.{length, take, drop, length-drop}
 use lib.Seq.{drop-drop, take_all}
 use lib.Dec.{eqb}
 use native.Mathlib.Omega.{arith}
-use borrow.Author.Tests.{eqb-true, eqb_false}
+use borrow.Author.Tests.{eqb-true, eqb-false}
 use Rattle.pdu.specs.Reading.{reading, used}
 use Rattle.pdu.proofs.BundleLaws.{used-fits, used_some}
 use Rattle.trunk.specs.Bundle.{first_pdu, stop_of, slice_stop, bundle}
@@ -50,7 +50,7 @@ goes_from at d h none = by (eqb (stop_of (reading (drop at d))) 0) refl
     by : (b : Bool) → eqb (stop_of (reading (drop at d))) 0 ≡ b → stop_of (reading (drop at d)) ≡ 0
     by true e = eqb-true _ _ e
     by false e =
-        let stop = eqb_false _ _ e in
+        let stop = eqb-false _ _ e in
         absurd (stop (sym (slice_here (drop at d) (left_at at d h) stop).0 ∙ none))
 
 -- stopped at a place, and at the end

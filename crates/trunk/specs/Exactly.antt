@@ -12,21 +12,21 @@ use Rattle.trunk.specs.Near.{offer_says, send_says, reply_says}
 use Rattle.trunk.specs.Far.{arrival_says}
 use Rattle.trunk.specs.Plain.{StoreRule, Walked, plain_length, plain_row_kind, plain_offer, plain_send, plain_reply, plain_arrival, plain_check}
 use Rattle.trunk.specs.declared.Checked.{Checked}
-use Rattle.trunk.specs.declared.Checked.TheVariants.{Refused as check_refused, Reply as a_reply, Pdu}
+use Rattle.trunk.specs.declared.Checked.TheVariants.{Refused as refused_check, Reply as a_reply, Pdu}
 use Rattle.trunk.specs.declared.Near.{Near}
 use Rattle.trunk.specs.declared.Far.{Far}
 use Rattle.trunk.specs.declared.Offer.{Offer}
-use Rattle.trunk.specs.declared.Offer.TheVariants.{Refused as offer_refused, Taken}
+use Rattle.trunk.specs.declared.Offer.TheVariants.{Refused as refused_offer, Taken}
 use Rattle.trunk.specs.declared.Sent.{Sent}
-use Rattle.trunk.specs.declared.Sent.TheVariants.{Refused as send_refused, Size}
+use Rattle.trunk.specs.declared.Sent.TheVariants.{Refused as refused_send, Size}
 use Rattle.trunk.specs.declared.Reply.{Reply}
-use Rattle.trunk.specs.declared.Reply.TheVariants.{Refused as reply_refused, Acknowledged}
+use Rattle.trunk.specs.declared.Reply.TheVariants.{Refused as refused_reply, Acknowledged}
 use Rattle.trunk.specs.declared.Arrival.{Arrival}
-use Rattle.trunk.specs.declared.Arrival.TheVariants.{Refused as arrival_refused, Delivered, Repeat, Early}
+use Rattle.trunk.specs.declared.Arrival.TheVariants.{Refused as refused_arrival, Delivered, Repeat, Early}
 
 -- "an offer, the number taken", by 02, R-5 "the first number taken": of a slice that `stop` stops behind so many PDUs
 pub record AnswerExactly (near : Near) (store : List ℕ) (stop pdus : ℕ) (a : Offer) : Type 0 where
-  pub refused : (n : ℕ) → (a ≡ offer_refused n) ↔ FirstBroken n (plain_offer near store stop pdus)
+  pub refused : (n : ℕ) → (a ≡ refused_offer n) ↔ FirstBroken n (plain_offer near store stop pdus)
   pub taken : (i : ℕ) → (a ≡ Taken i) ↔ (Met (plain_offer near store stop pdus) × (i ≡ near.accepted))
 
 -- a slice has these PDUs from the front, and this number stops it, 0 for none; and so in one way only
@@ -55,22 +55,22 @@ pub record NotCarried (d : List ℕ) : Type 0 where
 -- 02, R-4: "Near ends .. now pass on the reader's number", 50 for a retired message, wherever in a bundle it stands; of the types that are read, 23 is
 -- left for 6 and 7
 pub record TypesRefused (store d : List ℕ) (a : Offer) : Type 0 where
-  pub retired : (pdus : List (List ℕ)) (left : List ℕ) → StoreRule store → Walked d pdus left 50 → a ≡ offer_refused 50
-  pub two_left : a ≡ offer_refused 23 → NotCarried d
+  pub retired : (pdus : List (List ℕ)) (left : List ℕ) → StoreRule store → Walked d pdus left 50 → a ≡ refused_offer 50
+  pub two_left : a ≡ refused_offer 23 → NotCarried d
 
 -- "a send, the size written"
 pub record SendExactly (near : Near) (store : List ℕ) (i room : ℕ) (a : Sent) : Type 0 where
-  pub refused : (n : ℕ) → (a ≡ send_refused n) ↔ FirstBroken n (plain_send near store i room)
+  pub refused : (n : ℕ) → (a ≡ refused_send n) ↔ FirstBroken n (plain_send near store i room)
   pub size : (n : ℕ) → (a ≡ Size n) ↔ (Met (plain_send near store i room) × (n ≡ plain_length (plain_row_kind store i)))
 
 -- "a reply, the acknowledged count"
 pub record ReplyExactly (near : Near) (r : List ℕ) (a : Reply) : Type 0 where
-  pub refused : (n : ℕ) → (a ≡ reply_refused n) ↔ FirstBroken n (plain_reply near r)
+  pub refused : (n : ℕ) → (a ≡ refused_reply n) ↔ FirstBroken n (plain_reply near r)
   pub acknowledged : (n : ℕ) → (a ≡ Acknowledged n) ↔ (Met (plain_reply near r) × (n ≡ max near.acknowledged (num 4 1 r)))
 
 -- "a record at the far end, delivered (with PDU size and station's answer), repeat or early"
 pub record ArriveExactly (far : Far) (r : List ℕ) (replyRoom room : ℕ) (a : Arrival) : Type 0 where
-  pub refused : (n : ℕ) → (a ≡ arrival_refused n) ↔ FirstBroken n (plain_arrival r replyRoom room)
+  pub refused : (n : ℕ) → (a ≡ refused_arrival n) ↔ FirstBroken n (plain_arrival r replyRoom room)
   pub delivered :
       (size answer : ℕ)
       → (a ≡ Delivered size answer)
@@ -83,7 +83,7 @@ pub record ArriveExactly (far : Far) (r : List ℕ) (replyRoom room : ℕ) (a : 
 
 -- the check of a record: a refusal's number, or kind, number and size as they stand in it
 pub record CheckExactly (r : List ℕ) (c : Checked) : Type 0 where
-  pub refused : (n : ℕ) → (c ≡ check_refused n) ↔ FirstBroken n (plain_check r)
+  pub refused : (n : ℕ) → (c ≡ refused_check n) ↔ FirstBroken n (plain_check r)
   pub reply :
       (number size : ℕ)
       → (c ≡ a_reply number size)
@@ -96,23 +96,23 @@ pub record CheckExactly (r : List ℕ) (c : Checked) : Type 0 where
 -- ---- what each case of each answer says in document 01's numbers, which the promises cite: a refusal its number alone, any other 0 and its values
 
 pub record AnswersSay : Type 0 where
-  pub offer_refused : (n : ℕ) → offer_says (offer_refused n) ≡ n ∷ []
+  pub offer_refused : (n : ℕ) → offer_says (refused_offer n) ≡ n ∷ []
   pub offer_taken : (number : ℕ) → offer_says (Taken number) ≡ 0 ∷ number ∷ []
-  pub send_refused : (n : ℕ) → send_says (send_refused n) ≡ n ∷ []
+  pub send_refused : (n : ℕ) → send_says (refused_send n) ≡ n ∷ []
   pub send_size : (size : ℕ) → send_says (Size size) ≡ 0 ∷ size ∷ []
-  pub reply_refused : (n : ℕ) → reply_says (reply_refused n) ≡ n ∷ []
+  pub reply_refused : (n : ℕ) → reply_says (refused_reply n) ≡ n ∷ []
   pub reply_acknowledged : (count : ℕ) → reply_says (Acknowledged count) ≡ 0 ∷ count ∷ []
-  pub arrival_refused : (n : ℕ) → arrival_says (arrival_refused n) ≡ n ∷ []
+  pub arrival_refused : (n : ℕ) → arrival_says (refused_arrival n) ≡ n ∷ []
   pub arrival_delivered : (size answer : ℕ) → arrival_says (Delivered size answer) ≡ 0 ∷ size ∷ answer ∷ []
   pub arrival_repeat : arrival_says Repeat ≡ 0 ∷ []
   pub arrival_early : arrival_says Early ≡ 0 ∷ []
-  pub check_refused : (n : ℕ) → checked_says (check_refused n) ≡ n ∷ []
+  pub check_refused : (n : ℕ) → checked_says (refused_check n) ≡ n ∷ []
   pub check_reply : (number size : ℕ) → checked_says (a_reply number size) ≡ 0 ∷ 32 ∷ number ∷ size ∷ []
   pub check_pdu : (kind number size : ℕ) → checked_says (Pdu kind number size) ≡ 0 ∷ kind ∷ number ∷ size ∷ []
   -- "A taken one has number 0 and the size of the .. record; a refused one has size 0"
-  pub number_refused : (n : ℕ) → number_of_checked (check_refused n) ≡ n
+  pub number_refused : (n : ℕ) → number_of_checked (refused_check n) ≡ n
   pub number_reply : (number size : ℕ) → number_of_checked (a_reply number size) ≡ 0
   pub number_pdu : (kind number size : ℕ) → number_of_checked (Pdu kind number size) ≡ 0
-  pub size_refused : (n : ℕ) → size_of_checked (check_refused n) ≡ 0
+  pub size_refused : (n : ℕ) → size_of_checked (refused_check n) ≡ 0
   pub size_reply : (number size : ℕ) → size_of_checked (a_reply number size) ≡ size
   pub size_pdu : (kind number size : ℕ) → size_of_checked (Pdu kind number size) ≡ size

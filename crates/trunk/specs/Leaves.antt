@@ -15,10 +15,10 @@ use Rattle.trunk.specs.declared.Near.{Near}
 use Rattle.trunk.specs.declared.Far.{Far}
 use Rattle.trunk.specs.declared.MadeFar.{MadeFar}
 use Rattle.trunk.specs.declared.Ticked.{Ticked}
-use Rattle.trunk.specs.declared.Offer.TheVariants.{Refused as offer_refused, Taken}
-use Rattle.trunk.specs.declared.Sent.TheVariants.{Refused as send_refused, Size}
-use Rattle.trunk.specs.declared.Reply.TheVariants.{Refused as reply_refused, Acknowledged}
-use Rattle.trunk.specs.declared.Arrival.TheVariants.{Refused as arrival_refused, Delivered, Repeat, Early}
+use Rattle.trunk.specs.declared.Offer.TheVariants.{Refused as refused_offer, Taken}
+use Rattle.trunk.specs.declared.Sent.TheVariants.{Refused as refused_send, Size}
+use Rattle.trunk.specs.declared.Reply.TheVariants.{Refused as refused_reply, Acknowledged}
+use Rattle.trunk.specs.declared.Arrival.TheVariants.{Refused as refused_arrival, Delivered, Repeat, Early}
 
 -- ---- calls that are taken
 
@@ -85,13 +85,13 @@ pub record TickLeaves (far : Far) (t : ℕ) (o : Ticked) : Type 0 where
 
 -- the entry of a refused call; a clock is refused by 36
 abbrev pub Refused : Entry → Type 0
-Refused (offer_made d (offer_refused n) store) = Unit {0}
+Refused (offer_made d (refused_offer n) store) = Unit {0}
 Refused (offer_made d (Taken i) store) = ⊥
-Refused (send_made i (send_refused n) out) = Unit {0}
+Refused (send_made i (refused_send n) out) = Unit {0}
 Refused (send_made i (Size n) out) = ⊥
-Refused (reply_heard r (reply_refused n)) = Unit {0}
+Refused (reply_heard r (refused_reply n)) = Unit {0}
 Refused (reply_heard r (Acknowledged n)) = ⊥
-Refused (record_heard r (arrival_refused n) reply out) = Unit {0}
+Refused (record_heard r (refused_arrival n) reply out) = Unit {0}
 Refused (record_heard r (Delivered size answer) reply out) = ⊥
 Refused (record_heard r Repeat reply out) = ⊥
 Refused (record_heard r Early reply out) = ⊥

@@ -13,13 +13,13 @@ use Rattle.trunk.specs.Far.{made_far, arrived, reply_after, output_after, ticked
 use Rattle.trunk.specs.declared.Near.{Near}
 use Rattle.trunk.specs.declared.Far.{Far}
 use Rattle.trunk.specs.declared.Offer.{Offer}
-use Rattle.trunk.specs.declared.Offer.TheVariants.{Refused as offer_refused, Taken}
+use Rattle.trunk.specs.declared.Offer.TheVariants.{Refused as refused_offer, Taken}
 use Rattle.trunk.specs.declared.Sent.{Sent}
-use Rattle.trunk.specs.declared.Sent.TheVariants.{Refused as send_refused, Size}
+use Rattle.trunk.specs.declared.Sent.TheVariants.{Refused as refused_send, Size}
 use Rattle.trunk.specs.declared.Reply.{Reply}
-use Rattle.trunk.specs.declared.Reply.TheVariants.{Refused as reply_refused, Acknowledged}
+use Rattle.trunk.specs.declared.Reply.TheVariants.{Refused as refused_reply, Acknowledged}
 use Rattle.trunk.specs.declared.Arrival.{Arrival}
-use Rattle.trunk.specs.declared.Arrival.TheVariants.{Refused as arrival_refused, Delivered, Repeat, Early}
+use Rattle.trunk.specs.declared.Arrival.TheVariants.{Refused as refused_arrival, Delivered, Repeat, Early}
 
 -- a call, with the arguments that its caller is free to choose
 pub data Call : Type 0 where
@@ -115,7 +115,7 @@ collect f (e ∷ log) = collect f log ++ f e
 
 -- "Accepted are the PDUs of the offers not refused, from number 0, as the writer gives them"; 02, R-5: "of the PDUs inside bundles, one by one"
 abbrev pub accepted_by : Entry → List (List ℕ)
-accepted_by (offer_made d (offer_refused n) store) = []
+accepted_by (offer_made d (refused_offer n) store) = []
 accepted_by (offer_made d (Taken i) store) = map written_form (bundle d)
 accepted_by (send_made i a out) = []
 accepted_by (reply_heard r a) = []
@@ -130,7 +130,7 @@ abbrev pub put_out_by : Entry → List (List ℕ)
 put_out_by (offer_made d a store) = []
 put_out_by (send_made i a out) = []
 put_out_by (reply_heard r a) = []
-put_out_by (record_heard r (arrival_refused n) reply out) = []
+put_out_by (record_heard r (refused_arrival n) reply out) = []
 put_out_by (record_heard r (Delivered size answer) reply out) = take size out ∷ []
 put_out_by (record_heard r Repeat reply out) = []
 put_out_by (record_heard r Early reply out) = []
@@ -146,12 +146,12 @@ rows_from store i (suc n) = plain_row store i ∷ rows_from store (i + 1) n
 
 -- the records that calls wrote: an offer's, as their rows of the store have them; a send's, by the size answered; and an arrival's reply, 5 bytes
 abbrev pub written_by : Entry → List (List ℕ)
-written_by (offer_made d (offer_refused n) store) = []
+written_by (offer_made d (refused_offer n) store) = []
 written_by (offer_made d (Taken i) store) = rows_from store i (length (bundle d))
-written_by (send_made i (send_refused n) out) = []
+written_by (send_made i (refused_send n) out) = []
 written_by (send_made i (Size n) out) = take n out ∷ []
 written_by (reply_heard r a) = []
-written_by (record_heard r (arrival_refused n) reply out) = []
+written_by (record_heard r (refused_arrival n) reply out) = []
 written_by (record_heard r (Delivered size answer) reply out) = take 5 reply ∷ []
 written_by (record_heard r Repeat reply out) = take 5 reply ∷ []
 written_by (record_heard r Early reply out) = take 5 reply ∷ []
@@ -165,7 +165,7 @@ abbrev pub acknowledged : List Entry → ℕ
 acknowledged [] = 0
 acknowledged (offer_made d a store ∷ log) = acknowledged log
 acknowledged (send_made i a out ∷ log) = acknowledged log
-acknowledged (reply_heard r (reply_refused n) ∷ log) = acknowledged log
+acknowledged (reply_heard r (refused_reply n) ∷ log) = acknowledged log
 acknowledged (reply_heard r (Acknowledged n) ∷ log) = max (acknowledged log) (num 4 1 r)
 acknowledged (record_heard r a reply out ∷ log) = acknowledged log
 acknowledged (clock_set t a ∷ log) = acknowledged log
@@ -175,7 +175,7 @@ abbrev pub events_by : Entry → List StationCall
 events_by (offer_made d a store) = []
 events_by (send_made i a out) = []
 events_by (reply_heard r a) = []
-events_by (record_heard r (arrival_refused n) reply out) = []
+events_by (record_heard r (refused_arrival n) reply out) = []
 events_by (record_heard r (Delivered size answer) reply out) = datagram (take size out) ∷ []
 events_by (record_heard r Repeat reply out) = []
 events_by (record_heard r Early reply out) = []
@@ -189,7 +189,7 @@ abbrev pub station_said_by : Entry → List ℕ
 station_said_by (offer_made d a store) = []
 station_said_by (send_made i a out) = []
 station_said_by (reply_heard r a) = []
-station_said_by (record_heard r (arrival_refused n) reply out) = []
+station_said_by (record_heard r (refused_arrival n) reply out) = []
 station_said_by (record_heard r (Delivered size answer) reply out) = answer ∷ []
 station_said_by (record_heard r Repeat reply out) = []
 station_said_by (record_heard r Early reply out) = []

@@ -10,13 +10,13 @@ use Rattle.trunk.specs.Record.{head_for, record_of, number_in, last_number, is_r
 use Rattle.trunk.specs.Bundle.{bundle_stop, bundle}
 use Rattle.trunk.specs.declared.Near.{Near}
 use Rattle.trunk.specs.declared.Offer.{Offer}
-use Rattle.trunk.specs.declared.Offer.TheVariants.{Refused as offer_refused, Taken}
+use Rattle.trunk.specs.declared.Offer.TheVariants.{Refused as refused_offer, Taken}
 use Rattle.trunk.specs.declared.Offered.{Offered}
 use Rattle.trunk.specs.declared.Sent.{Sent}
-use Rattle.trunk.specs.declared.Sent.TheVariants.{Refused as send_refused, Size}
+use Rattle.trunk.specs.declared.Sent.TheVariants.{Refused as refused_send, Size}
 use Rattle.trunk.specs.declared.Sending.{Sending}
 use Rattle.trunk.specs.declared.Reply.{Reply}
-use Rattle.trunk.specs.declared.Reply.TheVariants.{Refused as reply_refused, Acknowledged}
+use Rattle.trunk.specs.declared.Reply.TheVariants.{Refused as refused_reply, Acknowledged}
 use Rattle.trunk.specs.declared.Replied.{Replied}
 
 -- "a lent store of eight rows of 192 bytes"
@@ -93,7 +93,7 @@ unfoldable pub offered : Near → List ℕ → List ℕ → Offered
 offered near store d =
     cond (eqb (first (offer_rules near store d)) 0)
     (record { near = more_accepted near (length (bundle d)); answer = Taken near.accepted })
-    (record { near = near; answer = offer_refused (first (offer_rules near store d)) })
+    (record { near = near; answer = refused_offer (first (offer_rules near store d)) })
 
 -- what an offer leaves in the store
 unfoldable pub store_after : Near → List ℕ → List ℕ → List ℕ
@@ -102,7 +102,7 @@ store_after near store d =
 
 -- document 01's number and values of its answer: "an offer, the number taken", by 02, R-5 the first
 abbrev pub offer_says : Offer → List ℕ
-offer_says (offer_refused n) = n ∷ []
+offer_says (refused_offer n) = n ∷ []
 offer_says (Taken i) = 0 ∷ i ∷ []
 
 -- the whole outcome of an offer: its answer with the near end after it, and the store after it
@@ -143,7 +143,7 @@ sent near store i room =
       answer =
           cond (eqb (first (send_rules near store i room)) 0)
           (Size (record_size (row_kind store i)))
-          (send_refused (first (send_rules near store i room)));
+          (refused_send (first (send_rules near store i room)));
     }
 
 -- what a send leaves in the lent buffer
@@ -155,7 +155,7 @@ sent_out near store i out =
 
 -- document 01's number and values of its answer: "a send, the size written"
 abbrev pub send_says : Sent → List ℕ
-send_says (send_refused n) = n ∷ []
+send_says (refused_send n) = n ∷ []
 send_says (Size n) = 0 ∷ n ∷ []
 
 -- the whole outcome of a send: its answer with the near end after it, and the lent buffer after it
@@ -190,11 +190,11 @@ replied near r =
       near = acknowledging near (number_in r);
       answer = Acknowledged (acknowledged_after near.acknowledged (number_in r));
     })
-    (record { near = near; answer = reply_refused (first (reply_rules near r)) })
+    (record { near = near; answer = refused_reply (first (reply_rules near r)) })
 
 -- document 01's number and values of its answer: "a reply, the acknowledged count"
 abbrev pub reply_says : Reply → List ℕ
-reply_says (reply_refused n) = n ∷ []
+reply_says (refused_reply n) = n ∷ []
 reply_says (Acknowledged n) = 0 ∷ n ∷ []
 
 -- the whole outcome of taking a reply: its answer with the near end after it

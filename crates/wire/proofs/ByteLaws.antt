@@ -143,11 +143,11 @@ splice-start b l h = sets-eq b l 0 (omega arith) ∙ ap (λ (n : ℕ). b ++ drop
 pub not-all_zero : (i : ℕ) (d : List ℕ) → (get_or d i 0 ≡ 0 → ⊥) → all_zero d ≡ false
 not-all_zero i [] h = elim (h refl) [ ]
 not-all_zero zero (x ∷ xs) h = ap (λ (t : Bool). t && all_zero xs) (ne_eqb x 0 h)
-not-all_zero (suc i) (x ∷ xs) h = ap (λ (t : Bool). eqb x 0 && t) (not-all_zero i xs h) ∙ and_false (eqb x 0)
+not-all_zero (suc i) (x ∷ xs) h = ap (λ (t : Bool). eqb x 0 && t) (not-all_zero i xs h) ∙ and-false (eqb x 0)
   where
-    and_false : (t : Bool) → (t && false) ≡ false
-    and_false true = refl
-    and_false false = refl
+    and-false : (t : Bool) → (t && false) ≡ false
+    and-false true = refl
+    and-false false = refl
 
 -- no byte but zero at any place
 pub each_zero : (d : List ℕ) → ((i : ℕ) → i < length d → get_or d i 0 ≡ 0) → all_zero d ≡ true

@@ -7,7 +7,7 @@ use mathlib.Core.Logic.{◌≢◌}
 use mathlib.Core.Bool.{Bool, true, false, cond, not}
 use mathlib.Core.List.{List, [], ◌∷◌, ◌++◌}
 use lib.Dec.{eqb}
-use borrow.Author.Tests.{eqb_false, eq-eqb, ne_eqb, not-true}
+use borrow.Author.Tests.{eqb-false, eq-eqb, ne_eqb, not-true}
 use Rattle.wire.specs.First.{Refusal, ◌given_when◌, first, lacks, numbered, without}
 use Rattle.wire.specs.Plain.{Unbroken}
 use Rattle.wire.proofs.TableLaws.{both_true}
@@ -16,7 +16,7 @@ use Rattle.wire.proofs.TableLaws.{both_true}
 pub unbroken : (rs : List Refusal) → numbered rs ≡ true → first rs ≡ 0 → Unbroken rs
 unbroken [] u e = tt
 unbroken ((n given_when true) ∷ rs) u e =
-    elim (eqb_false n 0 (not-true (eqb n 0) (both_true (not (eqb n 0)) (numbered rs) u).0) e) [ ]
+    elim (eqb-false n 0 (not-true (eqb n 0) (both_true (not (eqb n 0)) (numbered rs) u).0) e) [ ]
 unbroken ((n given_when false) ∷ rs) u e = (refl, unbroken rs (both_true (not (eqb n 0)) (numbered rs) u).1 e)
 
 -- a first list with a broken rule answers for both
@@ -29,14 +29,14 @@ first_here ((n given_when false) ∷ a) b h = first_here a b h
 pub first_next : (a b : List Refusal) → numbered a ≡ true → first a ≡ 0 → first (a ++ b) ≡ first b
 first_next [] b u e = refl
 first_next ((n given_when true) ∷ a) b u e =
-    elim (eqb_false n 0 (not-true (eqb n 0) (both_true (not (eqb n 0)) (numbered a) u).0) e) [ ]
+    elim (eqb-false n 0 (not-true (eqb n 0) (both_true (not (eqb n 0)) (numbered a) u).0) e) [ ]
 first_next ((n given_when false) ∷ a) b u e = first_next a b (both_true (not (eqb n 0)) (numbered a) u).1 e
 
 -- where no rule of two lists in a row is broken, none of either is
 pub none_of : (a b : List Refusal) → numbered a ≡ true → first (a ++ b) ≡ 0 → (first a ≡ 0) × (first b ≡ 0)
 none_of [] b u e = (refl, e)
 none_of ((n given_when true) ∷ a) b u e =
-    elim (eqb_false n 0 (not-true (eqb n 0) (both_true (not (eqb n 0)) (numbered a) u).0) e) [ ]
+    elim (eqb-false n 0 (not-true (eqb n 0) (both_true (not (eqb n 0)) (numbered a) u).0) e) [ ]
 none_of ((n given_when false) ∷ a) b u e = none_of a b (both_true (not (eqb n 0)) (numbered a) u).1 e
 
 -- the number given is of no sort that the rules lack, where 0 is of none
@@ -49,7 +49,7 @@ first-lacks sort ((n given_when false) ∷ rs) z u = first-lacks sort rs z (both
 pub first_past : (k : ℕ) (a b : List Refusal) → lacks (λ n. eqb n k) a ≡ true → first (a ++ b) ≡ k → first a ≡ 0
 first_past k [] b u e = refl
 first_past k ((n given_when true) ∷ a) b u e =
-    absurd (eqb_false n k (not-true (eqb n k) (both_true (not (eqb n k)) (lacks (λ n. eqb n k) a) u).0) e)
+    absurd (eqb-false n k (not-true (eqb n k) (both_true (not (eqb n k)) (lacks (λ n. eqb n k) a) u).0) e)
 first_past k ((n given_when false) ∷ a) b u e = first_past k a b (both_true (not (eqb n k)) (lacks (λ n. eqb n k) a) u).1 e
 
 -- ---- rules left out
@@ -105,9 +105,9 @@ pub first-behind : (k : ℕ) (broken : Bool) (a c : List Refusal)
     → first (without k (a ++ ((k given_when broken) ∷ c))) ≡ first c
 first-behind k true [] c u v some e = rw (eq-eqb k k refl) (ap first (without-none k c v))
 first-behind k false [] c u v some e =
-    absurd (eqb_false (first c) k (first-lacks (λ n. eqb n k) c (ne_eqb 0 k (λ z. some (sym z))) v) e)
+    absurd (eqb-false (first c) k (first-lacks (λ n. eqb n k) c (ne_eqb 0 k (λ z. some (sym z))) v) e)
 first-behind k broken ((n given_when true) ∷ a) c u v some e =
-    absurd (eqb_false n k (not-true (eqb n k) (both_true (not (eqb n k)) (lacks (λ n. eqb n k) a) u).0) e)
+    absurd (eqb-false n k (not-true (eqb n k) (both_true (not (eqb n k)) (lacks (λ n. eqb n k) a) u).0) e)
 first-behind k broken ((n given_when false) ∷ a) c u v some e =
     let (other, rest) = both_true (not (eqb n k)) (lacks (λ n. eqb n k) a) u in
     rw (not-true (eqb n k) other) (first-behind k broken a c rest v some e)

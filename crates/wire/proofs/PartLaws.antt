@@ -10,7 +10,7 @@ use lib.Seq.{take_all, get_or-take, get_or-drop, sets-eq, drop-drop, length-take
 use lib.Dec.{eqb}
 use native.Mathlib.Nat.{add_assoc, add-suc}
 use native.Mathlib.Omega.{arith}
-use borrow.Author.Tests.{eqb-true, eqb_false}
+use borrow.Author.Tests.{eqb-true, eqb-false}
 use Rattle.wire.specs.Bytes.{num, splice, all_zero}
 use Rattle.wire.proofs.ByteLaws.{splice-start, each_zero}
 use Rattle.wire.proofs.TableLaws.{both_true}
@@ -40,7 +40,7 @@ bytes_of-zero (suc w) o d e i h = by (eqb i w) refl (bytes_of-zero w o d (omega 
     by : (b : Bool) → eqb i w ≡ b → (i < w → get_or d (o + i) 0 ≡ 0) → get_or d (o + i) 0 ≡ 0
     by true t high = ap (λ (k : ℕ). get_or d (o + k) 0) (eqb-true i w t) ∙ omega arith
     by false t high =
-        let other : i ≡ w → ⊥ = eqb_false i w t in
+        let other : i ≡ w → ⊥ = eqb-false i w t in
         high (omega arith)
 
 zero_of_bytes : (w o : ℕ) (d : List ℕ) → ((i : ℕ) → i < w → get_or d (o + i) 0 ≡ 0) → num w o d ≡ 0
@@ -67,7 +67,7 @@ zero-end w o d whole = by (eqb (num w o d) 0) refl
       where
         some : (b : Bool) → all_zero (drop o d) ≡ b → b ≡ false
         some false e = refl
-        some true e = elim (eqb_false _ _ t (zero_of_bytes w o d (λ i l. sym (place i) ∙ all_zero_lem (drop o d) e i))) [ ]
+        some true e = elim (eqb-false _ _ t (zero_of_bytes w o d (λ i l. sym (place i) ∙ all_zero_lem (drop o d) e i))) [ ]
 
 -- a lent part that was spliced from its start, back in the whole
 pub part-splice :

@@ -3,7 +3,7 @@
 use Prim.Native.Nat.{ℕ, ◌%◌, ◌^◌}
 use mathlib.Core.Path.{◌≡◌, sym, ap, ◌∙◌}
 use mathlib.Core.List.{List}
-use borrow.Author.Tests.{eqb-true, eqb_false}
+use borrow.Author.Tests.{eqb-true, eqb-false}
 use native.Mathlib.Omega.{arith}
 use Rattle.wire.specs.Bytes.{num}
 use Rattle.pdu.specs.Tables.{is_seven}
@@ -40,7 +40,7 @@ returns c =
 returns-2 : tie.Need-returns-2
 unfolding header_of
 returns-2 c =
-    let before = eqb_false _ _ (sym (tested c.before) ∙ c.if1.false) in
+    let before = eqb-false _ _ (sym (tested c.before) ∙ c.if1.false) in
     sym (status_none (num 1 0 (d c.before)) (num 1 10 (d c.before)) before)
 
 pub read-status-spec : {M : Type 1} → statement M

@@ -7,7 +7,7 @@ use mathlib.Core.Path.{◌≡◌, refl, ap}
 use mathlib.Core.List.{List}
 use lib.Dec.{eqb}
 use native.Mathlib.Omega.{arith}
-use borrow.Author.Tests.{eqb-true, eqb_false, eq-eqb, ne_eqb}
+use borrow.Author.Tests.{eqb-true, eqb-false, eq-eqb, ne_eqb}
 use Rattle.wire.specs.Bytes.{num, Bytes}
 use Rattle.wire.proofs.ByteLaws.{num-lt}
 use Rattle.pdu.specs.Numbers
@@ -27,8 +27,8 @@ in_a_row true s a b m n e h k = go (eqb a m) (eqb b n) refl refl
   where
     go : (t u : Bool) → eqb a m ≡ t → eqb b n ≡ u → eqb s (m * 65536 + n) ≡ (t && u)
     go true true p q = eq-eqb s (m * 65536 + n) (omega (arith, eqb-true a m p, eqb-true b n q))
-    go true false p q = ne_eqb s (m * 65536 + n) (λ f. eqb_false b n q (omega (arith, eqb-true a m p, f)))
-    go false u p q = ne_eqb s (m * 65536 + n) (λ f. eqb_false a m p (omega (arith, f)))
+    go true false p q = ne_eqb s (m * 65536 + n) (λ f. eqb-false b n q (omega (arith, eqb-true a m p, f)))
+    go false u p q = ne_eqb s (m * 65536 + n) (λ f. eqb-false a m p (omega (arith, f)))
 
 -- bytes 90 to 93
 modulation : (d : List ℕ) → Bytes d → (x : Bool)
