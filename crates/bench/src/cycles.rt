@@ -13,7 +13,7 @@ const REPLY: usize = trunk::records::HEAD_SIZE;
 const ROOM: usize = kinds::LONGEST_RECORD;
 
 // Both ends, and a sum of what the calls answered.
-#[derive(Drop)]
+#[derive(Clone, Copy)]
 struct Ends {
     near: Near,
     far: Far,
@@ -39,7 +39,7 @@ fn added(sum: u64, size: usize, answer: u8, count: u32, byte: u8) -> u64 {
 }
 
 // The near end after an offer and a send, and the size of the record sent; 0 where one of them refuses.
-#[derive(Drop)]
+#[derive(Clone, Copy)]
 struct Launched {
     near: Near,
     size: usize,
@@ -73,7 +73,7 @@ fn launch(
 }
 
 // The near end after a reply, and the sum.
-#[derive(Drop)]
+#[derive(Clone, Copy)]
 struct Landed {
     near: Near,
     sum: u64,

@@ -4,7 +4,7 @@ ghost use Rattle.std.specs.Prelude.{◌≤◌};
 use libc::{STDERR_FILENO, STDOUT_FILENO};
 
 // A line's first word.
-#[derive(Drop)]
+#[derive(Clone, Copy)]
 pub enum Task {
     Cycle,
     Heard,
@@ -15,7 +15,7 @@ pub enum Task {
 const WORD_LENGTH: usize = 5;
 
 // A line, with the length of its text; that is 0 where it cannot be read.
-#[derive(Drop)]
+#[derive(Clone, Copy)]
 pub struct Line {
     pub task: Task,
     pub size: u64,
@@ -24,7 +24,7 @@ pub struct Line {
 }
 
 // A number, and the place behind it; place 0 where there is none.
-#[derive(Drop)]
+#[derive(Clone, Copy)]
 struct Number {
     value: u64,
     end: usize,

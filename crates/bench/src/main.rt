@@ -1,6 +1,8 @@
 // Runs jobs on the proved calls, one a line from standard input, and prints a line for each: the work that `make bench` times.
 //   cycle KIND TIMES    an offer, a send, an arrival and a reply, of a PDU of this record kind
 //   heard UNITS TIMES   a PPLI from the last of so many units that a station holds
+#![tactic(auto)]
+
 mod cycles;
 mod datagrams;
 mod lines;

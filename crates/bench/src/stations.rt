@@ -5,7 +5,7 @@ use station::Station;
 const MOST_UNITS: u64 = station::PLACES as u64;
 
 // A station, and a sum of what its calls answered.
-#[derive(Drop)]
+#[derive(Clone, Copy)]
 struct Tally {
     station: Station,
     sum: u64,

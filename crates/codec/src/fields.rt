@@ -13,49 +13,49 @@ const U32: u64 = u32::MAX as u64;
 const U64: u64 = u64::MAX;
 
 // A part of a record, and the place behind its words.
-#[derive(Drop)]
+#[derive(Clone, Copy)]
 struct HeaderRead {
     header: Header,
     rest: Place,
 }
 
-#[derive(Drop)]
+#[derive(Clone, Copy)]
 struct EntityRead {
     entity: Entity,
     rest: Place,
 }
 
-#[derive(Drop)]
+#[derive(Clone, Copy)]
 struct AntennaRead {
     antenna: Antenna,
     rest: Place,
 }
 
-#[derive(Drop)]
+#[derive(Clone, Copy)]
 struct EmissionRead {
     emission: Emission,
     rest: Place,
 }
 
-#[derive(Drop)]
+#[derive(Clone, Copy)]
 struct SyncRead {
     sync: Sync,
     rest: Place,
 }
 
-#[derive(Drop)]
+#[derive(Clone, Copy)]
 struct NetworkRead {
     network: Network,
     rest: Place,
 }
 
-#[derive(Drop)]
+#[derive(Clone, Copy)]
 pub struct TransmitterRead {
     pub transmitter: Transmitter,
     pub rest: Place,
 }
 
-#[derive(Drop)]
+#[derive(Clone, Copy)]
 pub struct SignalRead {
     pub signal: Signal,
     pub rest: Place,

@@ -1,4 +1,6 @@
 // Reads the first PDUs of datagrams and writes PDUs, one a line from standard input, and prints what each call answered.
+#![tactic(auto)]
+
 mod calls;
 mod fields;
 mod script;
@@ -29,7 +31,7 @@ fn run_line(line: &[u8]) -> bool {
 }
 
 // Where a line leaves the run: with these bytes held, or at its end.
-#[derive(Drop)]
+#[derive(Clone, Copy)]
 enum After {
     Held(Held),
     End,

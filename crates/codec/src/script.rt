@@ -4,7 +4,7 @@ use pdu::{Signal, Transmitter};
 use text::ROOM;
 
 // A call. Its datagram or body stands at the start of a buffer; here is how many bytes.
-#[derive(Drop)]
+#[derive(Clone, Copy)]
 pub enum Call {
     // `read HEX`
     Read(usize),

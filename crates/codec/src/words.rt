@@ -4,14 +4,14 @@ ghost use Rattle.std.specs.Prelude.{◌≤◌};
 use text::ROOM;
 
 // Where the next word starts, and whether all before it could be read. Behind a line's last word it is a place beyond the line.
-#[derive(Drop)]
+#[derive(Clone, Copy)]
 pub struct Place {
     pub at: usize,
     pub good: bool,
 }
 
 // A number that was read, or how many bytes, and the place behind it.
-#[derive(Drop)]
+#[derive(Clone, Copy)]
 pub struct Word {
     pub value: u64,
     pub rest: Place,

@@ -1,4 +1,6 @@
 // The calls of the C host, on numbers and byte slices. Every export of the archive stands in this crate.
+#![tactic(auto)]
+
 ghost use Rattle.std.specs.Prelude.{◌≡◌};
 ghost use Rattle.pdu.specs.Forms.{size_of};
 ghost use Rattle.pdu.specs.Reading.{reading, archive_reading, number_of};

@@ -1,10 +1,12 @@
 // Lists trunk records, end to end from standard input: one line each, up to the first refusal (document 01, "Sizes and edges").
 // One record is held at a time, so the input may be of any length. A failed read or write is told on standard error, and ends the listing.
+#![tactic(auto)]
+
 use libc::{STDIN_FILENO, STDOUT_FILENO};
 use trunk::{Checked, Load, kinds, records};
 
 // What one read brought.
-#[derive(Drop)]
+#[derive(Clone, Copy)]
 enum Came {
     Bytes(usize),
     Failed,

@@ -1,5 +1,7 @@
 // The occupancy word of a station's sixteen places: bit i is 1 exactly where place i is held.
 // Internal: the crates above are proved to meet each `requires`.
+#![tactic(auto)]
+
 ghost use Rattle.std.specs.Prelude.{◌≡◌, false, ◌^◌, ◌<◌};
 ghost use Rattle.occupancy.specs.Places.{places, held, free_place, held_count, with_place};
 

@@ -1,5 +1,6 @@
 // Link 16 PDUs (DIS Transmitter and Signal): the types that reading and writing share, the numbers of document 01 that other crates use,
 // and the tests of a record's fields. What reading and writing mean stands in specs/; the crates `reader` and `writer` do it.
+#![tactic(auto)]
 
 pub mod refusals;
 pub mod rules;
@@ -140,7 +141,7 @@ pub const SUBLABEL_UNIT: u16 = 128;
 pub const SUBLABELS: u16 = 8;
 
 // Bytes 0 to 19, which both PDUs share; type, family, length and padding are not kept. The status is 0 in versions 5 and 6.
-#[derive(Drop)]
+#[derive(Clone, Copy)]
 pub struct Header {
     pub version: u8,
     pub exercise: u8,
@@ -153,7 +154,7 @@ pub struct Header {
 }
 
 // Bytes 20 to 31 of a Transmitter: its radio entity type, the category left out, and its transmit state.
-#[derive(Drop)]
+#[derive(Clone, Copy)]
 pub struct Entity {
     pub kind: u8,
     pub domain: u8,
@@ -164,7 +165,7 @@ pub struct Entity {
 }
 
 // Bytes 32 to 71: antenna location (three doubles) and relative location (three singles), as bits, and the pattern type.
-#[derive(Drop)]
+#[derive(Clone, Copy)]
 pub struct Antenna {
     pub x: u64,
     pub y: u64,
@@ -176,7 +177,7 @@ pub struct Antenna {
 }
 
 // Bytes 72 to 103: frequency, bandwidth and power as bits; spread spectrum; crypto system and key ID.
-#[derive(Drop)]
+#[derive(Clone, Copy)]
 pub struct Emission {
     pub frequency: u64,
     pub bandwidth: u32,
@@ -187,7 +188,7 @@ pub struct Emission {
 }
 
 // Bytes 104 to 111: TSA level, modes, synchronization state and ID.
-#[derive(Drop)]
+#[derive(Clone, Copy)]
 pub struct Sync {
     pub level: u8,
     pub primary: u8,
@@ -196,7 +197,7 @@ pub struct Sync {
     pub id: u32,
 }
 
-#[derive(Drop)]
+#[derive(Clone, Copy)]
 pub struct Transmitter {
     pub header: Header,
     pub entity: Entity,
@@ -206,7 +207,7 @@ pub struct Transmitter {
 }
 
 // The network header of a Signal; the slot ID is two fields, so that no padding bit is in a record.
-#[derive(Drop)]
+#[derive(Clone, Copy)]
 pub struct Network {
     pub npg: u16,
     pub net: u8,
@@ -218,7 +219,7 @@ pub struct Network {
     pub time: u64,
 }
 
-#[derive(Drop)]
+#[derive(Clone, Copy)]
 pub struct Signal {
     pub header: Header,
     pub encoding: u16,
@@ -228,7 +229,7 @@ pub struct Signal {
 }
 
 // What reading a datagram answers: a refusal number; a Transmitter; or a Signal and its body's size, the body left in the caller's slice.
-#[derive(Drop)]
+#[derive(Clone, Copy)]
 pub enum Reading {
     Refused(u8),
     Transmitter(Transmitter),
@@ -236,35 +237,35 @@ pub enum Reading {
 }
 
 // The number of what reading answered, 0 where a PDU is taken, and its size, 0 where it is refused.
-#[derive(Drop)]
+#[derive(Clone, Copy)]
 pub struct Answer {
     pub number: u8,
     pub size: u16,
 }
 
 // What writing answers: a refusal number, or the bytes written.
-#[derive(Drop)]
+#[derive(Clone, Copy)]
 pub enum Written {
     Refused(u8),
     Size(usize),
 }
 
 // What bytes hold that should be in written form: a PDU as the writer gives it, or something else.
-#[derive(Drop)]
+#[derive(Clone, Copy)]
 pub enum Carried {
     Other,
     Pdu(Reading),
 }
 
 // What a body holds as round-trip timing: the one kept field, of 35 bits.
-#[derive(Drop)]
+#[derive(Clone, Copy)]
 pub enum Timing {
     Absent,
     Here(u64),
 }
 
 // What stands at a word's place in a type 0 body.
-#[derive(Drop)]
+#[derive(Clone, Copy)]
 pub enum Word {
     Absent,
     Here { format: u8, label: u8, sublabel: u8 },

@@ -1,5 +1,7 @@
 // Plans for 64 rates, or checks a plan for them, so many times: the work that `make bench` times. Standard input is `plan TIMES` or `check TIMES`;
 // what is printed sums up what came of it, so that two programs can be compared.
+#![tactic(auto)]
+
 use libc::STDIN_FILENO;
 use plantext::show;
 use slots::{Planned, Verdict};

@@ -1,5 +1,7 @@
 // Reads rates from standard input, one a line, then a line `-`, then blocks, a line `SET FIRST RATE` each, and prints whether the blocks are a
 // plan for the rates: `accepted`, `not a plan`, or `refused N` for rates that no plan can be for. A line that cannot be read is `bad line N`.
+#![tactic(auto)]
+
 use plantext::{Came, show};
 use slots::Verdict;
 

@@ -1,5 +1,7 @@
 // Reads rates from standard input, one a line, and prints a plan for them: a line `SET FIRST RATE` for each block, in the rates' order; or
 // `refused N`. A line that cannot be read is `bad line N`.
+#![tactic(auto)]
+
 use plantext::{Came, show};
 use slots::Planned;
 

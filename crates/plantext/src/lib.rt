@@ -1,4 +1,6 @@
 // The text that the programs `planner` and `plancheck` read: rates one a line, a line `-`, and blocks as `SET FIRST RATE` one a line.
+#![tactic(auto)]
+
 pub mod scan;
 pub mod show;
 
@@ -13,7 +15,7 @@ pub const RATES_THEN_DASH: u8 = 1;
 pub const BLOCKS: u8 = 2;
 
 // What was read so far: the lines that ended, which may come, how many rates and bytes of a plan, and whether a line could not be read.
-#[derive(Drop)]
+#[derive(Clone, Copy)]
 pub struct Input {
     pub lines: u64,
     pub phase: u8,
@@ -23,7 +25,7 @@ pub struct Input {
 }
 
 // What standard input brought: the whole text's length; or only its start, since there is more than fits; or a failure.
-#[derive(Drop)]
+#[derive(Clone, Copy)]
 pub enum Came {
     Text(usize),
     Start(usize),

@@ -9,7 +9,7 @@ const LETTER: u8 = 2;
 const DASH: u8 = 3;
 
 // A line so far: the words before this one, what this one is, its number, and the block's set and first index.
-#[derive(Drop)]
+#[derive(Clone, Copy)]
 pub struct Scan {
     pub words: u8,
     pub word: u8,
@@ -19,7 +19,7 @@ pub struct Scan {
 }
 
 // What a byte ended: nothing, or a line.
-#[derive(Drop)]
+#[derive(Clone, Copy)]
 pub enum Found {
     Nothing,
     Rate(u8),
@@ -28,7 +28,7 @@ pub enum Found {
     Bad,
 }
 
-#[derive(Drop)]
+#[derive(Clone, Copy)]
 pub struct Stepped {
     pub scan: Scan,
     pub found: Found,

@@ -1,5 +1,7 @@
 // Reads Link 16 PDUs (DIS Transmitter and Signal) as document 01 lays them out: the first of a slice that may hold more (request R-5).
 // Every public call takes every input and is promised down to each bit of its answer.
+#![tactic(auto)]
+
 ghost use Rattle.std.specs.Prelude.{◌≡◌};
 ghost use Rattle.pdu.specs.Forms.{size_of};
 ghost use Rattle.pdu.specs.Reading.{Laid, refusal, content, reading, number_of, reading_says, read_says};

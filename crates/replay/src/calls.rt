@@ -8,7 +8,7 @@ use trunk::{Far, MadeFar, Near, far_end, near_end};
 const STORE: usize = trunk::near_end::STORE_SIZE;
 
 // The near end, and the store that is lent to it: its bytes, of which the first `size` are lent.
-#[derive(Drop)]
+#[derive(Clone, Copy)]
 pub struct Side {
     pub near: Near,
     pub store: [u8; ROOM],
@@ -16,7 +16,7 @@ pub struct Side {
 }
 
 // Both ends, how many lines came before, and whether all of them could be read.
-#[derive(Drop)]
+#[derive(Clone, Copy)]
 pub struct State {
     pub side: Side,
     pub far: Far,

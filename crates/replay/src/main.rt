@@ -1,4 +1,6 @@
 // Replays a list of calls on both ends of the trunk, one a line from standard input, and prints what each call gave and how both ends stand.
+#![tactic(auto)]
+
 mod answers;
 mod calls;
 mod script;
@@ -9,7 +11,7 @@ use text::lines::{Held, INPUT, Next};
 use text::{lines, show};
 
 // Where a line leaves the run: both ends, the bytes held, and whether to go on.
-#[derive(Drop)]
+#[derive(Clone, Copy)]
 struct Run {
     state: State,
     held: Held,

@@ -2,7 +2,7 @@
 use text::ROOM;
 
 // A call. Its bytes stand at the start of a buffer; here is how many.
-#[derive(Drop)]
+#[derive(Clone, Copy)]
 pub enum Call {
     // `station LEVEL NET` or `station LEVEL NET EXCHANGES`: makes the far end's station, with the usual limit.
     Station {

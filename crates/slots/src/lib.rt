@@ -1,5 +1,7 @@
 // Handing out slots (document 02, R-14): the check of a plan from any source. The planner is in a module of its own, and the check uses
 // nothing of it.
+#![tactic(auto)]
+
 pub mod planner;
 mod refusals;
 
@@ -9,7 +11,7 @@ ghost use Rattle.slots.specs.Blocks.{modulus, block_at};
 ghost use Rattle.slots.specs.Checking.{every, all_low, rate_rules, first_below, fits, share, apart_before, good_at, is_plan, verdict};
 
 // A block of slots: its set 0, 1 or 2 for A, B or C, its rate, and its first index.
-#[derive(Drop)]
+#[derive(Clone, Copy)]
 pub struct Block {
     pub set: u8,
     pub rate: u8,
@@ -17,7 +19,7 @@ pub struct Block {
 }
 
 // What the check says of a plan: accepted, the rates refused with 61 or 62, or no plan for these rates.
-#[derive(Drop)]
+#[derive(Clone, Copy)]
 pub enum Verdict {
     Accepted,
     Refused(u8),
@@ -25,7 +27,7 @@ pub enum Verdict {
 }
 
 // What the planner answers: the size written, or a refusal.
-#[derive(Drop)]
+#[derive(Clone, Copy)]
 pub enum Planned {
     Size(usize),
     Refused(u8),

@@ -1,5 +1,7 @@
 // The net-entry state of one station (document 01, "The station"): what each datagram and each clock makes of it.
 // Every public call takes every station and every argument, and is promised as a whole answer and a whole station after it.
+#![tactic(auto)]
+
 ghost use Rattle.std.specs.Prelude.{◌≡◌};
 ghost use Rattle.pdu.specs.Reading.{reading};
 ghost use Rattle.station.specs.Units.{level_of, net_of, exchanges_of, limit_of, count_of, id_of, state_of, clock_of, key_of, fresh, wrong_settings};
@@ -35,7 +37,7 @@ pub const USUAL_LIMIT: u16 = 96;
 const KEY_PART: u64 = 65536;
 
 // The station's own state in the net.
-#[derive(Drop)]
+#[derive(Clone, Copy)]
 pub enum State {
     Waiting,
     Coarse,
@@ -43,7 +45,7 @@ pub enum State {
 }
 
 // What a station is made with; no call changes it.
-#[derive(Drop)]
+#[derive(Clone, Copy)]
 pub struct Settings {
     limit: u16,
     level: u8,
@@ -52,7 +54,7 @@ pub struct Settings {
 }
 
 // Where a station stands in the net.
-#[derive(Drop)]
+#[derive(Clone, Copy)]
 pub struct Standing {
     id: u32,
     count: u8,
@@ -60,7 +62,7 @@ pub struct Standing {
 }
 
 // A station's own fields: all but its places.
-#[derive(Drop)]
+#[derive(Clone, Copy)]
 pub struct Own {
     clock: u64,
     standing: Standing,
@@ -68,7 +70,7 @@ pub struct Own {
 }
 
 // An entry: what the station knows of a unit. The wide fields stand first, so that there is no gap between them to copy.
-#[derive(Drop)]
+#[derive(Clone, Copy)]
 pub struct Unit {
     pub key: u64,
     pub last: u64,
@@ -80,7 +82,7 @@ pub struct Unit {
 
 // A station; `used` is the word of held places, and what a free place holds means nothing. The entries stand first: with no gap before them they
 // are copied as one block.
-#[derive(Drop)]
+#[derive(Clone, Copy)]
 pub struct Station {
     units: [Unit; occupancy::PLACES],
     own: Own,
@@ -89,7 +91,7 @@ pub struct Station {
 
 // What one datagram can touch of a station: its own fields, its word, and the entry in the sender's place. An unknown sender's place is 16, and
 // the entry that of place 0.
-#[derive(Drop)]
+#[derive(Clone, Copy)]
 struct Part {
     own: Own,
     used: u16,
@@ -98,28 +100,28 @@ struct Part {
 }
 
 // What the rules make of a part, and the answer.
-#[derive(Drop)]
+#[derive(Clone, Copy)]
 struct Outcome {
     part: Part,
     answer: u8,
 }
 
 // What a maker answers: 0, or 37 with a station of level 0, net 0, 1 exchange and the usual limit.
-#[derive(Drop)]
+#[derive(Clone, Copy)]
 pub struct Made {
     pub station: Station,
     pub answer: u8,
 }
 
 // What a call on a station answers, by document 01's number, and the station after it.
-#[derive(Drop)]
+#[derive(Clone, Copy)]
 pub struct Heard {
     pub station: Station,
     pub answer: u8,
 }
 
 // What a Signal says to a station: J0.0, a PPLI, round-trip timing (request R-1), or all else.
-#[derive(Drop)]
+#[derive(Clone, Copy)]
 pub enum Message {
     NetEntry,
     Ppli,
@@ -129,14 +131,14 @@ pub enum Message {
 }
 
 // What a station knows of a key.
-#[derive(Drop)]
+#[derive(Clone, Copy)]
 pub enum Seen {
     Unknown,
     Known { inside: bool, last: u64 },
 }
 
 // What a place holds.
-#[derive(Drop)]
+#[derive(Clone, Copy)]
 pub enum Place {
     Free,
     Held(Unit),

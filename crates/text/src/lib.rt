@@ -1,4 +1,6 @@
 // Words, numbers and hexadecimal bytes in a line of text, and what the programs `replay` and `codec` print.
+#![tactic(auto)]
+
 pub mod lines;
 pub mod show;
 
@@ -8,14 +10,14 @@ ghost use Rattle.std.specs.Prelude.{◌≤◌};
 pub const ROOM: usize = 4096;
 
 // A number that was read; where none could be, it is not good.
-#[derive(Drop)]
+#[derive(Clone, Copy)]
 pub struct Number {
     pub value: u64,
     pub good: bool,
 }
 
 // Two numbers that were read.
-#[derive(Drop)]
+#[derive(Clone, Copy)]
 pub struct Pair {
     pub first: u64,
     pub second: u64,

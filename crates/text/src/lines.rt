@@ -5,7 +5,7 @@ use libc::STDIN_FILENO;
 pub const INPUT: usize = 65536;
 
 // The bytes that were read and not yet handed out: from `start` up to `end`.
-#[derive(Drop)]
+#[derive(Clone, Copy)]
 pub struct Held {
     pub start: usize,
     pub end: usize,
@@ -13,7 +13,7 @@ pub struct Held {
 
 // What comes next: a line without its end, from `start` up to `end`, and what is held behind it; or a line that is too long; or the input's end;
 // or a read that failed.
-#[derive(Drop)]
+#[derive(Clone, Copy)]
 pub enum Next {
     Line {
         start: usize,
@@ -26,7 +26,7 @@ pub enum Next {
 }
 
 // What one read brought: so many bytes, none at the input's end, or a failure.
-#[derive(Drop)]
+#[derive(Clone, Copy)]
 struct Came {
     bytes: usize,
     failed: bool,
@@ -106,7 +106,7 @@ fn last(have: usize) -> Next {
 }
 
 // One turn of looking for a line: what came of it, or what is held now.
-#[derive(Drop)]
+#[derive(Clone, Copy)]
 enum Turn {
     Done(Next),
     More(Held),

@@ -44,6 +44,7 @@ rest_lt b k j h = omega (arith, part-lt b k 0 j (pow_pos b) h)
 
 join-lt : (ps : List Part) (xs : List ℕ) → sound_parts ps ≡ true → FitParts ps xs → join ps xs < 2 ^ bits ps
 join-lt [] xs s f = omega arith
+join-lt (keep b ∷ ps) [] s f = elim f [ ]
 join-lt (keep b ∷ ps) (x ∷ xs) s f = part-lt b (bits ps) x (join ps xs) f.0 (join-lt ps xs s f.1)
 join-lt (only b u ∷ ps) xs s f =
     let e = both_true (ltb u (2 ^ b)) (sound_parts ps) s in
@@ -56,6 +57,7 @@ above_is b h x j ps hx hj = ap (λ (n : ℕ). n % 2 ^ b) (digits_div (h * 2 ^ b 
 
 split-join : (ps : List Part) (h : ℕ) (xs : List ℕ) → sound_parts ps ≡ true → FitParts ps xs → split ps (h * 2 ^ bits ps + join ps xs) ≡ xs
 split-join [] h xs s f = sym f
+split-join (keep b ∷ ps) h [] s f = elim f [ ]
 split-join (keep b ∷ ps) h (x ∷ xs) s f =
     rw (regroup h b (bits ps) x (join ps xs))
     (ap₂ (λ (y : ℕ) (ys : List ℕ). y ∷ ys)
@@ -68,6 +70,7 @@ split-join (skip b ∷ ps) h xs s f = rw (regroup_skip h b (bits ps) (join ps xs
 
 fixed-join : (ps : List Part) (h : ℕ) (xs : List ℕ) → sound_parts ps ≡ true → FitParts ps xs → fixed ps (h * 2 ^ bits ps + join ps xs) ≡ true
 fixed-join [] h xs s f = refl
+fixed-join (keep b ∷ ps) h [] s f = elim f [ ]
 fixed-join (keep b ∷ ps) h (x ∷ xs) s f =
     rw (regroup h b (bits ps) x (join ps xs)) (fixed-join ps (h * 2 ^ b + x) xs s f.1)
 fixed-join (only b u ∷ ps) h xs s f =
@@ -148,12 +151,14 @@ sound_rest (one w u) t e = (both_true (ltb u (256 ^ w)) (sound t) e).1
 sound_rest (parts w ps) t e = (parts_fill w ps t e).2
 
 fit_rest : (s : Slot) (t : List Slot) (xs : List ℕ) → Fit (s ∷ t) xs → Fit t (drop (count s) xs)
+fit_rest (kept w) t [] f = elim f [ ]
 fit_rest (kept w) t (x ∷ xs) f = f.1
 fit_rest (padding w) t xs f = f
 fit_rest (one w u) t xs f = f
 fit_rest (parts w ps) t xs f = f.1
 
 number_lt : (s : Slot) (t : List Slot) (xs : List ℕ) → sound (s ∷ t) ≡ true → Fit (s ∷ t) xs → number s (take (count s) xs) < 256 ^ wide s
+number_lt (kept w) t [] e f = elim f [ ]
 number_lt (kept w) t (x ∷ xs) e f = f.0
 number_lt (padding w) t xs e f = pow_pos_256 w
 number_lt (one w u) t xs e f = ltb-true _ _ (both_true (ltb u (256 ^ w)) (sound t) e).0
@@ -170,6 +175,7 @@ values-number :
     → sound (s ∷ t) ≡ true
     → Fit (s ∷ t) xs
     → values s (number s (take (count s) xs)) ≡ take (count s) xs
+values-number (kept w) t [] e f = elim f [ ]
 values-number (kept w) t (x ∷ xs) e f = refl
 values-number (padding w) t xs e f = refl
 values-number (one w u) t xs e f = refl

@@ -1,5 +1,7 @@
 // Big-endian numbers in byte slices, writing over a part of a buffer, and tests joined without branches.
 // Internal: the crates above are proved to meet each `requires`.
+#![tactic(auto)]
+
 ghost use Rattle.std.specs.Prelude.{◌≡◌, not, ◌&&◌, ◌||◌, [], ◌∷◌, ◌++◌, ◌+◌, ◌≤◌, ◌<◌, length, replicate};
 ghost use Rattle.wire.specs.Bytes.{num, big, row, splice, all_zero};
 

@@ -1,5 +1,7 @@
 // Writes Link 16 PDUs (DIS Transmitter and Signal) as document 01 lays them out, from the start of a lent output.
 // Every public call takes every input and is promised down to each bit of its answer and of the output.
+#![tactic(auto)]
+
 ghost use Rattle.std.specs.Prelude.{◌≡◌, [], length};
 ghost use Rattle.pdu.specs.Writing.{written, written_says, writing_says, output_after};
 ghost use Rattle.pdu.specs.declared.Reading.TheVariants.{Transmitter as a_transmitter, Signal as a_signal};
