@@ -14,20 +14,20 @@ returns-then-number-ne0 c = early c.args.rates.now _ _ c.rate_refusal-number.ens
 pub wanted_slots-requires : goal.wanted_slots-requires
 wanted_slots-requires c = passing c.args.rates.now (sym c.rate_refusal-number.ensures ∙ c.if-number-ne0.false)
 
-pub returns-then-wanted_slots-gt98304 : goal.returns-then-wanted_slots-gt98304
-returns-then-wanted_slots-gt98304 c =
+pub returns-then-wanted_slots-gt-ALL_SLOTS : goal.returns-then-wanted_slots-gt-ALL_SLOTS
+returns-then-wanted_slots-gt-ALL_SLOTS c =
     let pass = passing c.args.rates.now (sym c.rate_refusal-number.ensures ∙ c.if-number-ne0.false) in
-    let over = by_count c.args.rates.now _ c.wanted_slots.ensures (lt-ltb _ _ c.if-wanted_slots-gt98304.true) in
+    let over = by_count c.args.rates.now _ c.wanted_slots.ensures (lt-ltb _ _ c.if-wanted_slots-gt-ALL_SLOTS.true) in
     late c.args.rates.now _ pass over refl
 
 pub returns-then-room-rates : goal.returns-then-room-rates
 returns-then-room-rates c =
     let pass = passing c.args.rates.now (sym c.rate_refusal-number.ensures ∙ c.if-number-ne0.false) in
-    let within = by_count c.args.rates.now _ c.wanted_slots.ensures (le-ltb _ _ c.if-wanted_slots-gt98304.false) in
+    let within = by_count c.args.rates.now _ c.wanted_slots.ensures (le-ltb _ _ c.if-wanted_slots-gt-ALL_SLOTS.false) in
     late c.args.rates.now _ pass within (lt-ltb _ _ c.if-room-rates.true)
 
 pub returns : goal.returns
 returns c =
     let pass = passing c.args.rates.now (sym c.rate_refusal-number.ensures ∙ c.if-number-ne0.false) in
-    let within = by_count c.args.rates.now _ c.wanted_slots.ensures (le-ltb _ _ c.if-wanted_slots-gt98304.false) in
+    let within = by_count c.args.rates.now _ c.wanted_slots.ensures (le-ltb _ _ c.if-wanted_slots-gt-ALL_SLOTS.false) in
     late c.args.rates.now _ pass within (le-ltb _ _ c.if-room-rates.false)
