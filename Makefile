@@ -57,8 +57,8 @@ say = @echo '$(1)' >&2
 ## make help             this list
 help:
 	@sed -n 's/^## //p' $(MAKEFILE_LIST)
-	@echo 'Times are from nothing, on 2 idle cores, and nearly all proofs. These are made once, and again where'
-	@echo 'a crate changes: a second time all but test and bench take seconds.'
+	@echo 'Times are from nothing, on 2 idle cores with an older kit, and nearly all proofs. These are made once, and'
+	@echo 'again where a crate changes: a second time all but test and bench take seconds.'
 
 .PHONY: run
 ## make run              an example C host, and a sample exercise over the trunk                 4 minutes
