@@ -458,8 +458,8 @@ unfolding stored_all
 bundle-keeps {station} {near} {store} {far} {v} h [] bytes all whole numbers free =
     subst₂ (λ (n : Near) (s : Seen). Holds station n store far s) (sym (more_none near)) (sym (accepts_none v)) h
 bundle-keeps {station} {near} {store} {far} {v} h (p ∷ ps) (b, bytes) (one, all) whole numbers free =
-    let kind = eqb-false _ _ ((type_says p one.taken).1 one.carried) in
     let fits : OneFits near store = record { whole = whole; more = omega arith; free = omega arith } in
+    let kind = eqb-false _ _ ((type_says p one.taken).1 one.carried) in
     let full = length-sets store (row_start near.accepted) (offer_record near.accepted p) ∙ whole in
     let qs : List (List ℕ) = map written_form ps in
     let rs : List (List ℕ) = records_from (near.accepted + 1) qs in
