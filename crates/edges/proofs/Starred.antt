@@ -12,7 +12,8 @@ use Rattle.station.specs.Clock.{at_time, clocked}
 use Rattle.edges.specs.Cases.{all_hold, starred_cases}
 
 pub starred : all_hold starred_cases ≡ true
-unfolding wrong_version wrong_sync access_rules slot_rules network_rules live_rules body_rules inner_rules transmitter_of signal_of content wrong_type wrong_length
+unfolding wrong_version wrong_sync access_rules slot_rules network_rules live_rules body_rules inner_rules transmitter_of signal_of content
+    wrong_type wrong_length
     wrong_fixed wrong_records wrong_bits start_rules transmitter_layout signal_layout reading_rules refusal reading
     fresh made place_of enter renew heard_transmitter step heard at_time clocked least count word_of
 starred = refl

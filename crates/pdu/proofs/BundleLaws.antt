@@ -24,7 +24,8 @@ use Rattle.pdu.specs.Forms.{table_of, size_of}
 use Rattle.pdu.specs.Reading.{version_seven, transmitter_of, signal_of, body_size, says_transmitter, content, refusal, reading, used}
 use Rattle.pdu.specs.Reading.{number_of, archive_refusal, archive_reading}
 use Rattle.pdu.specs.Writing.{padding_zero}
-use Rattle.pdu.specs.Plain.{LiveRule, plain_start, plain_transmitter, plain_network_at, plain_body_at, plain_inner, plain_signal_layout, plain_signal, plain_archive}
+use Rattle.pdu.specs.Plain.{LiveRule, plain_start, plain_transmitter, plain_network_at, plain_body_at, plain_inner}
+use Rattle.pdu.specs.Plain.{plain_signal_layout, plain_signal, plain_archive}
 use Rattle.pdu.specs.RoundTrips.{FirstAlone}
 use Rattle.pdu.specs.declared.Reading.{Reading}
 use Rattle.pdu.specs.declared.Reading.TheVariants.{Transmitter as a_transmitter, Signal as a_signal}

@@ -283,5 +283,6 @@ no_thirteen = record {
   reading_gives = λ d n e q. eqb-false (refusal d) 13 (reading-lacks is_thirteen d (read-without d) refl) (((refuses_as d n).0 e).0 ∙ q);
   archive_gives = λ d n e q. eqb-false (archive_refusal d) 13 (archive-without d) (((answers-refused (archive_refusal d) d n).0 e).0 ∙ q);
   writing_gives = λ r room n e q.
-      eqb-false (writing_refusal r room) 13 (first-lacks is_thirteen (writing_rules r room) refl (write_without r room)) (((writes_refused r room n).0 e).0 ∙ q);
+      eqb-false (writing_refusal r room) 13 (first-lacks is_thirteen (writing_rules r room) refl (write_without r room))
+      (((writes_refused r room n).0 e).0 ∙ q);
 }

@@ -92,7 +92,6 @@ pub(crate) fn body_refusal(d: &[u8]) -> u8
 }
 
 // The number of the first broken rule of the network header, retired types included, and of the body, or 0.
-#[tactic(auto, unfolding(pdu::specs::Rules::access_rules, pdu::specs::Rules::inner_rules, pdu::specs::Rules::live_rules, pdu::specs::Rules::network_rules, pdu::specs::Rules::slot_rules))]
 fn inner_refusal(d: &[u8]) -> u8
     requires { first (signal_layout d.now) ≡ 0 }
     ensures { result ≡ first (inner_rules (a_signal (signal_of d.now) (body_size d.now))) }

@@ -15,11 +15,13 @@ use Rattle.station.specs.Clock.{at_time, clocked}
 use Rattle.station.specs.Example.{ExampleRuns}
 
 pub runs : ExampleRuns
-unfolding body_slots bytes_of word_at wrong_version wrong_sync access_rules slot_rules network_rules live_rules body_rules inner_rules transmitter_of signal_of content
+unfolding body_slots bytes_of word_at wrong_version wrong_sync access_rules slot_rules network_rules live_rules body_rules inner_rules transmitter_of signal_of
+    content
     wrong_type wrong_length
     wrong_fixed wrong_records wrong_status wrong_bits start_rules transmitter_layout signal_layout reading_rules refusal reading
     least word_of fresh made place_of enter
-    renew heard_transmitter other_id station_rules labelled word_saying message_of after_j00 after_timing after_ppli heard_message heard_signal step heard at_time clocked
+    renew heard_transmitter other_id station_rules labelled word_saying message_of after_j00 after_timing after_ppli heard_message
+    heard_signal step heard at_time clocked
 runs = record {
   first_answers = refl;
   first_state = refl;

@@ -255,7 +255,8 @@ unfolding fair allowed among same said story before after-all sending arriving r
     signal timing start_of zeros offered store_after offer_rules_of sent sent_out send_rules replied reply_rules arrived is_next count_after reply_after
     output_after arrival_rules ticked record_of load unknown_kind wrong_size is_reply last_of_all wrong_carried form_rules pdu_rules wrong_version
     wrong_type wrong_length wrong_fixed wrong_records wrong_status wrong_sync wrong_bits network_rules live_rules body_rules reading_rules refusal content
-    reading transmitter_of signal_of written_form in_written_form access_rules slot_rules inner_rules body_slots bytes_of start_rules transmitter_layout signal_layout word_at
+    reading transmitter_of signal_of written_form in_written_form access_rules slot_rules inner_rules body_slots bytes_of start_rules transmitter_layout
+    signal_layout word_at
     least word_of fresh made place_of enter renew heard_transmitter other_id station_rules labelled word_saying message_of after_j00 after_timing after_ppli
     heard_message heard_signal station-step heard at_time clocked
 computed = (refl, refl, refl, refl, refl, refl)

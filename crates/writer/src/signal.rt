@@ -16,7 +16,6 @@ use crate::header;
 use pdu::{Network, Signal, refusals};
 
 // The number of the first broken rule of the network header, retired types included, and of a body of n bytes, or 0.
-#[tactic(auto, unfolding(pdu::specs::Rules::access_rules, pdu::specs::Rules::inner_rules, pdu::specs::Rules::live_rules, pdu::specs::Rules::network_rules, pdu::specs::Rules::slot_rules))]
 fn inner_refusal(s: Signal, n: usize) -> u8
     ensures { result ≡ first (inner_rules (a_signal s n)) }
 {

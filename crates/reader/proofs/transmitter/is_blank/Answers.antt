@@ -27,7 +27,8 @@ long : (c : After-shared_slice_known-1) → Numbers.transmitter_size ≤ length 
 long c = (transmitter_laid c.args.d.now c.requires).size
 
 -- the padding behind the shared bytes
-late : (c : After-shared_slice_known-1) → all_blank 20 (entity_table (version_seven c.args.d.now) ++ (antenna_table ++ (emission_table ++ sync_table))) c.args.d.now
+late : (c : After-shared_slice_known-1)
+    → all_blank 20 (entity_table (version_seven c.args.d.now) ++ (antenna_table ++ (emission_table ++ sync_table))) c.args.d.now
     ≡ (eqb (num 2 30 c.args.d.now) 0 && eqb (num 3 101 c.args.d.now) 0)
 late c =
     let records = records_blank (num 1 0 c.args.d.now) (num 2 30 c.args.d.now) (records_laid c.args.d.now c.requires) (num-lt 2 30 c.args.d.now (bytes c)) in

@@ -84,7 +84,8 @@ returns-then-is_next c =
     ∙ ap₂ (λ (m n : ℕ). reply_of n ++ drop m c.args.reply.now) (length_reply c.count_after-after.result) count in
     let here = next ∙ c.if-is_next.true in
     let pdu = part_rest head_size c.args.received.now in
-    let fit : length (carried_in c.args.received.now) ≤ length c.args.out.now = simp length-drop (omega (arith, (fits earlier).form.short, (fits earlier).output)) in
+    let fit : length (carried_in c.args.received.now) ≤ length c.args.out.now =
+    simp length-drop (omega (arith, (fits earlier).form.short, (fits earlier).output)) in
     let said : List ℕ → List ℕ = λ p. 0 ∷ length p ∷ (heard c.args.far.station p).answer ∷ [] in
     record {
       answer = rw (taken earlier, here) (c.deliver.ensures.answer ∙ ap₂ (λ (n : ℕ) (p : List ℕ). delivered n c.args.far.station p) count pdu);

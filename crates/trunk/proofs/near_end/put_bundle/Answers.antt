@@ -18,7 +18,8 @@ use Rattle.trunk.proofs.near_end.put_bundle.Goals.{After-slice_known-in-loop-fro
 far : (c : After-slice_known-in-loop-from-1) → c.put_first-from.result ≡ used (drop c.loop-from.from c.args.datagram.now)
 far c = c.put_first-from.ensures.0 ∙ ap used (rest_part c.loop-from.from c.args.datagram.now)
 
-leaves : (c : After-slice_known-in-loop-from-1) → c.put_first-from.new.store ≡ stored c.loop-from.next c.loop-from.store (first_pdu (drop c.loop-from.from c.args.datagram.now))
+leaves : (c : After-slice_known-in-loop-from-1)
+    → c.put_first-from.new.store ≡ stored c.loop-from.next c.loop-from.store (first_pdu (drop c.loop-from.from c.args.datagram.now))
 leaves c =
     let goes : stop_of (reading (drop c.loop-from.from c.args.datagram.now)) ≡ 0 =
     goes_from _ _ c.loop-from-test.true c.loop-from.invariant.none in

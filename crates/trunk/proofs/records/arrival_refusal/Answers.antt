@@ -11,7 +11,8 @@ use Rattle.trunk.proofs.records.arrival_refusal.Goals.{Else-form-ne0, Else-is_re
 passed : (c : Else-form-ne0) → first (form_rules c.args.r.now) ≡ 0
 passed c = sym c.form_refusal-form.ensures ∙ c.if-form-ne0.false
 
-then-pdu : (c : Else-is_reply) → first (arrival_rules c.args.r.now c.args.reply_room c.args.room) ≡ first (pdu_rules c.args.r.now ++ (room_rules c.args.reply_room c.args.room))
+then-pdu : (c : Else-is_reply)
+    → first (arrival_rules c.args.r.now c.args.reply_room c.args.room) ≡ first (pdu_rules c.args.r.now ++ (room_rules c.args.reply_room c.args.room))
 unfolding arrival_rules
 then-pdu c =
     let passed : first (form_rules c.args.r.now) ≡ 0 =
@@ -23,7 +24,8 @@ unfolding arrival_rules
 then-room c =
     let passed : first (form_rules c.args.r.now) ≡ 0 =
     sym c.form_refusal-form.ensures ∙ c.if-form-ne0.false in
-    let then-pdu : first (arrival_rules c.args.r.now c.args.reply_room c.args.room) ≡ first (pdu_rules c.args.r.now ++ (room_rules c.args.reply_room c.args.room)) =
+    let room = room_rules c.args.reply_room c.args.room in
+    let then-pdu : first (arrival_rules c.args.r.now c.args.reply_room c.args.room) ≡ first (pdu_rules c.args.r.now ++ room) =
     form_next c.args.r.now _ passed ∙ rw (sym c.is_reply.ensures ∙ c.if-is_reply.false) in
     then-pdu ∙ pdu_next c.args.r.now _ (sym c.pdu_refusal-pdu.ensures ∙ c.if-pdu-ne0.false)
 
