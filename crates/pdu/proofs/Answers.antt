@@ -14,7 +14,6 @@ use native.Mathlib.Omega.{arith}
 use Rattle.wire.specs.Bytes.{num}
 use Rattle.wire.specs.First.{Refusal, first}
 use Rattle.wire.specs.Rules.{Rule, Met, Verdict}
-use Rattle.pdu.specs.Numbers
 use Rattle.pdu.specs.Forms.{size_of}
 use Rattle.pdu.specs.Reading.{transmitter_of, signal_of, body_size, says_transmitter, content, reading_rules, refusal, answer_by, reading}
 use Rattle.pdu.specs.Reading.{number_of, values_held, reading_says, said_by, read_says, archive_rules, archive_refusal, archive_reading}

@@ -3,7 +3,7 @@
 -- read, is the same record with the same body (`reads_back`): what is written has the record's values, so it is taken by the table. So a written form
 -- reads the same and is its own (`written_form_lem`), and is met exactly where the padding is zero (`written_form_exactly`).
 -- Assumes nothing.
-use Prim.Native.Nat.{ℕ, ◌+◌, ◌≤◌, ◌<◌, ◌^◌}
+use Prim.Native.Nat.{ℕ, ◌≤◌, ◌<◌, ◌^◌}
 use mathlib.Core.Path.{◌≡◌, refl, sym, ap, ap₂, subst, ◌∙◌}
 use mathlib.Core.Logic.{◌↔◌, ◌⊎◌}
 use mathlib.Core.Bool.{Bool, true, false}

@@ -17,6 +17,7 @@ pub fn is_seven(version: u8) -> bool
 }
 
 // Whether refusal 2 applies to a version.
+#[tactic(auto, unfolding(crate::specs::Rules::wrong_version))]
 pub fn wrong_version(v: u8) -> bool
     ensures { result ≡ wrong_version v }
 {
@@ -25,6 +26,7 @@ pub fn wrong_version(v: u8) -> bool
 }
 
 // Whether refusal 52 applies.
+#[tactic(auto, unfolding(crate::specs::Rules::wrong_status))]
 pub fn wrong_status(h: Header) -> bool
     ensures { result ≡ wrong_status h }
 {
@@ -42,6 +44,7 @@ fn is_primary(mode: u8) -> bool
 }
 
 // Whether refusal 9 applies.
+#[tactic(auto, unfolding(crate::specs::Rules::wrong_sync))]
 pub fn wrong_sync(s: Sync) -> bool
     ensures { result ≡ wrong_sync s }
 {
@@ -63,6 +66,7 @@ fn wrong_security(k: u8) -> bool
 }
 
 // The number of the first broken rule of NPG, net, TSEC and MSEC, or 0.
+#[tactic(auto, unfolding(crate::specs::Rules::access_rules))]
 fn access_refusal(n: Network) -> u8
     ensures { result ≡ first (access_rules n) }
 {
@@ -92,6 +96,7 @@ fn is_too_late(n: Network) -> bool
 }
 
 // The number of the first broken rule of the message type and the slot ID, or 0.
+#[tactic(auto, unfolding(crate::specs::Rules::slot_rules))]
 fn slot_refusal(n: Network) -> u8
     ensures { result ≡ first (slot_rules n) }
 {
@@ -173,6 +178,7 @@ fn wrong_timing(message_type: u8, n: usize) -> bool
 }
 
 // The number of the first broken rule of a body of n bytes, or 0.
+#[tactic(auto, unfolding(crate::specs::Rules::body_rules))]
 pub fn body_refusal(message_type: u8, n: usize) -> u8
     ensures { result ≡ first (body_rules message_type n) }
 {
