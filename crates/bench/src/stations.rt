@@ -32,7 +32,7 @@ fn with_units(units: u16) -> Station {
 // Hears a datagram so many times.
 fn hear(start: Station, datagram: &[u8], times: u64) -> Tally {
     let mut station = start;
-    let mut sum = 0;
+    let mut sum: u64 = 0;
     for _ in 0..times {
         let heard = station::hear(station, datagram);
         station = heard.station;
