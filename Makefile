@@ -11,7 +11,7 @@ PLANNER ?= target/bin/planner
 PLANCHECK ?= target/bin/plancheck
 PLANBENCH ?= target/bin/planbench
 
-# The programs that rt builds, one to a line.
+# The proved programs, one to a line.
 PROGRAMS := \
     target/bin/lister \
     target/bin/replay \
@@ -30,12 +30,12 @@ EXAMPLE := target/host/example
 HOST_TESTS := target/host/tests
 EXPORTS := target/host/exports.h
 SOURCE_TEST := target/source/source-test
-WRITER_MIR := target/source/writer.mir
+WRITER_MIR := target/mir/writer.json
 SECOND := target/second/second
 LINKED := target/linked-archive
 
-# What the archive and the programs are made from; must-fail edits are tried on copies.
-CRATE_FILES := $(shell find crates -type f -not -path '*/must-fail/*')
+# What the archive and the programs are made from; must-fail edits are tried on copies, and out/ is what rt keeps.
+CRATE_FILES := $(shell find crates -type f -not -path '*/must-fail/*' -not -path '*/out/*')
 
 MAKEFLAGS += --no-print-directory
 
@@ -49,7 +49,7 @@ need-nm = $(call need,nm,which tells the symbols of an archive)
 # $(call say,TEXT): what is done next; standard output is for what a target shows.
 say = @echo '$(1)' >&2
 
-# Two runs of rt at once would write the same files in target/.
+# Two runs of rt at once would wait for one another.
 .NOTPARALLEL:
 .DELETE_ON_ERROR:
 .PHONY: help FORCE kit c-compiler rust-compiler
@@ -57,8 +57,8 @@ say = @echo '$(1)' >&2
 ## make help             this list
 help:
 	@sed -n 's/^## //p' $(MAKEFILE_LIST)
-	@echo 'Times are from nothing, on 2 idle cores, and nearly all proofs. These are made once, and again where'
-	@echo 'a crate changes: a second time all but test and bench take seconds.'
+	@echo 'Times are from nothing, on 2 idle cores with an older kit, and nearly all proofs. These are made once, and'
+	@echo 'again where a crate changes: a second time all but test and bench take seconds.'
 
 .PHONY: run
 ## make run              an example C host, and a sample exercise over the trunk                 4 minutes
@@ -101,7 +101,7 @@ host-tests: c-compiler $(HOST_TESTS)
 .PHONY: source-test
 ## make source-test      the test of the source: no long array in the writer or what it calls    1 minute
 source-test: rust-compiler $(SOURCE_TEST) $(WRITER_MIR)
-	@$(SOURCE_TEST) crates $(WRITER_MIR)
+	@$(SOURCE_TEST) crates $(dir $(WRITER_MIR))
 
 .PHONY: compare
 ## make compare          the archive and the second program on datagrams                         3 minutes
@@ -141,7 +141,7 @@ compare-plans: rust-compiler $(SECOND) $(PLANNER) $(PLANCHECK)
 .PHONY: clean
 ## make clean            remove all that was built
 clean:
-	rm -rf target
+	rm -rf target crates/*/out
 
 # Asked for before anything is proved, so that nobody waits for minutes to learn what is missing.
 # rustc links by the C compiler.
@@ -159,16 +159,11 @@ kit:
 
 target/staticlib/libhost.a: crates.txt $(CRATE_FILES) | kit
 	$(need-rt)
-	@scripts/prove.sh staticlib host
-	@touch -c $@
+	@scripts/prove.sh archive host
 
-# rt leaves a program as it is where no crate has changed, and does not make it again if it is
-# gone: so none is deleted where another fails.
-.PRECIOUS: $(PROGRAMS)
 $(PROGRAMS): target/bin/%: crates.txt $(CRATE_FILES) | kit
 	$(need-rt)
-	@scripts/prove.sh check $*
-	@touch -c $@
+	@scripts/prove.sh program $*
 
 $(EXAMPLE): host/example.c
 $(HOST_TESTS): $(wildcard host/tests/*) $(EXPORTS)
@@ -190,12 +185,10 @@ $(SOURCE_TEST): $(wildcard source/*.rs) second/check.rs
 	@mkdir -p $(@D)
 	@$(RUSTC) $(RUSTFLAGS) --crate-name source_test -o $@ source/main.rs
 
-# What the compiler has of the writer and of the crates below it, which it wants proved first.
+# What the compiler made of the writer and of the crates below it, a file for each beside this one.
 $(WRITER_MIR): crates.txt $(CRATE_FILES) | kit
 	$(need-rt)
-	$(call say,Asking the compiler for the functions of the writer.)
-	@mkdir -p $(@D)
-	@rt mir writer > $@ 2> $@.log || { cat $@.log >&2; exit 1; }
+	@scripts/prove.sh library writer
 
 $(SECOND): $(shell find second -name '*.rs') $(ARCHIVE) $(LINKED)
 	$(need-rustc)

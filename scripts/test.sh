@@ -29,12 +29,29 @@ counted() {
     total=$((total + BASH_REMATCH[1]))
 }
 
+# proved: what rt ci printed has its line 'rt: ok', and no must-fail edit is a bad one, which rt ci lets pass.
+proved() {
+    local ok
+    ok=$(grep '^rt: ok' "$last") || fail 'rt ci'
+    [[ ! $ok =~ ,\ [1-9][0-9]*\ bad ]] || fail 'rt ci: bad must-fail edits'
+}
+
+# programs: rt ci leaves each program that it proved, built and ran; make builds what is not there.
+programs() {
+    local main name
+    for main in crates/*/src/main.rt; do
+        name=${main#crates/}
+        name=${name%%/*}
+        [ ! -f "crates/$name/out/$name" ] || install -D "crates/$name/out/$name" "target/bin/$name"
+    done
+    make programs
+}
+
 counted 'rt ci' rt ci
-shown 'rt fmt' rt fmt --check
-total=$((total + 1))
-counted 'source test' make source-test
+proved
+shown 'programs' programs
 shown 'archive' make archive
-shown 'programs' make programs
+counted 'source test' make source-test
 counted 'runs' make runs
 counted 'host tests' make host-tests
 counted 'compare' make compare

@@ -1,5 +1,6 @@
-//! Reading the source files of a folder of crates.
+//! Reading the source files of a folder of crates, and the MIR of libraries.
 
+use crate::mir::{self, Mir};
 use crate::program::Sources;
 use std::ffi::OsString;
 use std::io::Error;
@@ -20,7 +21,23 @@ pub fn read(folder: &Path) -> Result<Sources, String> {
     Ok(sources)
 }
 
-pub fn read_text(path: &Path) -> Result<String, String> {
+/// The functions in each file `FOLDER/..json`.
+pub fn read_mir(folder: &Path) -> Result<Mir, String> {
+    let mut found = Mir::new();
+    for name in names_in(folder)? {
+        let path = folder.join(name);
+        if path
+            .extension()
+            .is_some_and(|extension| extension == "json")
+        {
+            let added = mir::add(&mut found, &read_text(&path)?);
+            added.map_err(|says| format!("cannot read '{}': {says}", path.display()))?;
+        }
+    }
+    Ok(found)
+}
+
+fn read_text(path: &Path) -> Result<String, String> {
     std::fs::read_to_string(path).map_err(|error| told(path, &error))
 }
 

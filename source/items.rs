@@ -61,6 +61,9 @@ pub fn items(tokens: &[Token], span: Span) -> Result<Vec<Named>, Trouble> {
 
 fn item(cursor: &mut Cursor, found: &mut Vec<Named>) -> Result<(), Trouble> {
     cursor.attributes()?;
+    if cursor.is_end() {
+        return Ok(());
+    }
     let public = cursor.visibility()?;
     while cursor.eats("unsafe") || cursor.looks_at(&["const", "fn"]) && cursor.eats("const") {}
     if cursor.eats("extern") {
@@ -117,6 +120,7 @@ fn constant(cursor: &mut Cursor) -> Result<Named, Trouble> {
 
 fn structure(cursor: &mut Cursor) -> Result<Named, Trouble> {
     let name = cursor.word()?;
+    cursor.until(&["{", "(", ";"])?;
     let fields = fields(cursor)?;
     cursor.eats(";");
     let item = Item::Struct { fields };
@@ -147,6 +151,7 @@ fn fields(cursor: &mut Cursor) -> Result<Vec<Span>, Trouble> {
 
 fn enumeration(cursor: &mut Cursor) -> Result<Named, Trouble> {
     let name = cursor.word()?;
+    cursor.until(&["{"])?;
     let inside = cursor.group()?;
     let mut inner = cursor.within(inside);
     let mut variants = Vec::new();

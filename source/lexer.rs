@@ -1,5 +1,5 @@
 //! The tokens of a source file. What is for the prover alone (`requires { .. }`, `ensures { .. }`,
-//! `ghost use ..;`) is no code and is left out, as comments are.
+//! `ghost use ..;`, a ghost field or member) is no code and is left out, as comments are.
 
 #[derive(Clone, Copy, PartialEq)]
 pub enum Kind {
@@ -145,26 +145,38 @@ impl Lexer<'_> {
             return self.ghost(end);
         }
         if CONTRACTS.contains(&word) && begins_braces(behind) {
-            return self.contract();
+            return self.braces("has a contract that does not end");
         }
         self.push(Kind::Word, end);
         Ok(())
     }
 
-    /// `ghost use ..;`
+    /// `ghost use ..;`, or `ghost name: { .. }` and `ghost name = { .. }`, with the `,` or `;` behind.
     fn ghost(&mut self, end: usize) -> Result<(), Trouble> {
         let behind = self.rest()[end..].trim_start();
-        match (behind.starts_with("use "), self.rest().find(';')) {
-            (true, Some(last)) => {
-                self.skip(last + 1);
-                Ok(())
-            }
-            _ => self.trouble("has a `ghost` that is no `ghost use ..;`"),
+        if let (true, Some(last)) = (behind.starts_with("use "), self.rest().find(';')) {
+            self.skip(last + 1);
+            return Ok(());
         }
+        let behind = behind.trim_start_matches(is_word).trim_start();
+        if !behind.starts_with([':', '=']) {
+            return self.trouble("has a `ghost` that is none of the known forms");
+        }
+        self.braces("has a `ghost` that does not end")?;
+        if self.rest().trim_start().starts_with('=') {
+            self.braces("has a `ghost` that does not end")?;
+        }
+        let rest = self.rest();
+        let space = rest.len() - rest.trim_start().len();
+        if rest[space..].starts_with([',', ';']) {
+            self.skip(space + 1);
+        }
+        Ok(())
     }
 
-    /// A contract, to the brace that closes it; its text is the prover's, braces alone count.
-    fn contract(&mut self) -> Result<(), Trouble> {
+    /// Goes behind the brace that closes the first that opens; the text is the prover's, braces alone
+    /// count.
+    fn braces(&mut self, otherwise: &str) -> Result<(), Trouble> {
         let mut open = 0;
         for (i, c) in self.rest().char_indices() {
             open += usize::from(c == '{');
@@ -176,7 +188,7 @@ impl Lexer<'_> {
                 }
             }
         }
-        self.trouble("has a contract that does not end")
+        self.trouble(otherwise)
     }
 
     /// A text in quotes, which starts behind so many bytes; the kind goes by its length.
@@ -218,8 +230,9 @@ impl Lexer<'_> {
     }
 }
 
-/// Whether a brace follows, behind a name or none.
+/// Whether a brace follows, behind a star or none and a name or none.
 fn begins_braces(text: &str) -> bool {
-    let behind = text.trim_start().trim_start_matches(is_word);
+    let behind = text.strip_prefix('*').unwrap_or(text);
+    let behind = behind.trim_start().trim_start_matches(is_word);
     behind.trim_start().starts_with('{')
 }

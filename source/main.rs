@@ -7,10 +7,12 @@ mod check;
 mod cursor;
 mod files;
 mod items;
+mod json;
 mod lengths;
 mod lexer;
 mod mentions;
 mod mir;
+mod mir_planted;
 mod planted;
 mod plants;
 mod program;
@@ -23,7 +25,8 @@ use std::process::ExitCode;
 
 const USAGE: &str = "usage:
   source-test FOLDER MIR   the crates in this folder: no long array in what the writer calls;
-                           MIR is a file with what `rt mir writer` prints";
+                           MIR is a folder with the MIR of the writer's library and of each
+                           below it, a file CRATE.json for each";
 
 const BAD_ARGUMENTS: u8 = 2;
 
@@ -42,11 +45,11 @@ fn run(words: &[String]) -> Result<ExitCode, String> {
     match words {
         [folder, mir] => {
             let sources = files::read(Path::new(folder))?;
-            let mir = files::read_text(Path::new(mir))?;
-            Ok(test::run(&sources, &mir::functions(&mir)))
+            let mir = files::read_mir(Path::new(mir))?;
+            Ok(test::run(&sources, &mir))
         }
         [] => Err("no folder is named".to_string()),
-        [_] => Err("no file is named".to_string()),
+        [_] => Err("no folder of MIR is named".to_string()),
         _ => Err(format!("cannot read '{}'", words.join(" "))),
     }
 }

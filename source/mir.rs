@@ -1,14 +1,129 @@
-//! The functions that the compiler has of a crate and of those below it, as `rt mir` prints them.
+//! What the compiler made of each function of a library, its MIR, as the library holds it
+//! (`toolchain/mir.json`): whom it calls, and which arrays it names.
 
-/// What stands before each name.
-const BEFORE: &str = "fn-def \"";
+use crate::json::{self, Json};
+use crate::walk::LONGEST;
+use std::collections::{BTreeMap, BTreeSet};
 
-/// What a library gets to be a program for the compiler; it calls nothing.
-const EMPTY_PROGRAM: &str = "rt_empty::main";
+/// One function.
+#[derive(Default)]
+pub struct Compiled {
+    calls: BTreeSet<String>,
+    /// What is found of its arrays and calls, in words.
+    says: Vec<String>,
+}
 
-/// The whole names of the functions in what `rt mir` printed.
-pub fn functions(text: &str) -> Vec<&str> {
-    let behind = text.split(BEFORE).skip(1);
-    let names = behind.filter_map(|rest| rest.split('"').next());
-    names.filter(|name| *name != EMPTY_PROGRAM).collect()
+/// The functions of all crates, by their whole names.
+pub type Mir = BTreeMap<String, Compiled>;
+
+/// What the compiler calls from some functions on.
+pub struct Followed {
+    pub functions: BTreeSet<String>,
+    /// What is found in these functions.
+    pub says: Vec<String>,
+}
+
+/// Adds the functions of a library.
+pub fn add(mir: &mut Mir, text: &str) -> Result<(), String> {
+    let read = json::read(text)?;
+    for function in read.list().ok_or("it is no list of functions")? {
+        let [name, inside] = function.list().unwrap_or_default() else {
+            return Err("a function is no pair".to_string());
+        };
+        let name = name.text().ok_or("a function has no name")?;
+        mir.insert(name.to_string(), compiled(inside));
+    }
+    Ok(())
+}
+
+fn compiled(function: &Json) -> Compiled {
+    let mut found = Compiled::default();
+    function.each_field(&mut |name, value| match name {
+        "Fn" => match first(value).and_then(Json::text) {
+            Some(called) => {
+                found.calls.insert(called.to_string());
+            }
+            None => found.says.push("calls what has no name".to_string()),
+        },
+        "Call" | "CallV" if !is_direct(value) => found.says.push("calls a value".to_string()),
+        "Array" => found.says.extend(array(value)),
+        _ => {}
+    });
+    found
+}
+
+fn first(value: &Json) -> Option<&Json> {
+    value.list().and_then(<[Json]>::first)
+}
+
+/// Whether a call names its function.
+fn is_direct(call: &Json) -> bool {
+    let head = first(call).and_then(Json::alone);
+    head.is_some_and(|(name, _)| name == "Fn")
+}
+
+/// What there is to say of an array's type, if anything.
+fn array(value: &Json) -> Option<String> {
+    match array_bytes(value) {
+        Some(bytes) if bytes <= LONGEST => None,
+        Some(bytes) => Some(format!(
+            "has an array of {bytes} bytes, and {LONGEST} are allowed"
+        )),
+        None => Some("has an array whose size cannot be told".to_string()),
+    }
+}
+
+fn array_bytes(value: &Json) -> Option<u64> {
+    let [element, length] = value.list()? else {
+        return None;
+    };
+    let (_, count) = length.alone().filter(|(name, _)| *name == "Lit")?;
+    Some(bytes(element)?.saturating_mul(count.number()?))
+}
+
+/// The bytes of a type, where it tells them; of fields side by side never too few.
+fn bytes(of: &Json) -> Option<u64> {
+    match of.text() {
+        Some("Unit") => return Some(0),
+        Some("Bool") => return Some(1),
+        Some("Ptr") => return Some(8),
+        _ => {}
+    }
+    match of.alone()? {
+        ("Int" | "Float", bits) => Some(bits.number()?.div_ceil(8)),
+        ("Ref", _) => Some(8),
+        ("Array", inner) => array_bytes(inner),
+        ("Struct", named) => {
+            let fields = named.list()?.get(1)?.list()?.iter().map(bytes);
+            fields
+                .map(|field| Some(field?.next_multiple_of(16)))
+                .sum::<Option<u64>>()
+        }
+        _ => None,
+    }
+}
+
+/// Follows the calls from these functions on, through all that they reach.
+pub fn follow(mir: &Mir, from: impl IntoIterator<Item = String>) -> Followed {
+    let mut waiting = from.into_iter().collect::<Vec<String>>();
+    let mut followed = Followed {
+        functions: BTreeSet::new(),
+        says: Vec::new(),
+    };
+    while let Some(name) = waiting.pop() {
+        if !followed.functions.insert(name.clone()) {
+            continue;
+        }
+        match mir.get(&name) {
+            Some(function) => {
+                let says = function.says.iter();
+                followed
+                    .says
+                    .extend(says.map(|says| format!("`{name}` {says}")));
+                waiting.extend(function.calls.iter().cloned());
+            }
+            None => followed.says.push(format!("the compiler has no `{name}`")),
+        }
+    }
+    followed
 }

@@ -298,11 +298,22 @@ pub const PLANTS: &[Plant] = &[
         plantings: &[
             plant(
                 Behind("wire"),
-                "pub fn planted() ensures says { λ _. ⌜ { [0u8; 64] } ⌝ } { // [0u8; 64]\n }",
+                "pub fn planted(v: u8) requires { v ≤ [0u8; 64] } requires* low { ⊤ₛ } ensures says { { [0u8; 64] } } { // [0u8; 64]\n }",
             ),
-            plant(Inside("writer::header::put"), "wire::planted();"),
+            plant(Inside("writer::header::put"), "wire::planted(0);"),
         ],
         found: None,
+    },
+    Plant {
+        what: "a ghost field is no code, and the fields beside it are",
+        plantings: &[
+            plant(
+                Behind("wire"),
+                "pub struct Planted { ghost few: { [0u8; 64] }, scratch: [u8; 64] }",
+            ),
+            plant(Inside("writer::header::put"), "let planted: wire::Planted;"),
+        ],
+        found: Some((0, LONG)),
     },
     Plant {
         what: "a call that is nowhere",

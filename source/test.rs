@@ -1,6 +1,8 @@
 //! The claims that are counted: first of the sources, then of this test itself.
 
 use crate::check::{Claim, Report};
+use crate::mir::{follow, Followed, Mir};
+use crate::mir_planted;
 use crate::planted;
 use crate::plants::PLANTS;
 use crate::program::{Finding, Program, Sources};
@@ -22,12 +24,12 @@ const KNOWN: [&str; 7] = [
     "wire::zero",
 ];
 
-/// Prints and counts all claims, with the functions that the compiler has; the status to exit with.
-pub fn run(sources: &Sources, compiled: &[&str]) -> ExitCode {
+/// Prints and counts all claims, with what the compiler made of the functions; the status to exit with.
+pub fn run(sources: &Sources, mir: &Mir) -> ExitCode {
     let mut report = Report::default();
     let read = Program::read(sources);
     report.count(&all_read(sources, &read));
-    let findings = read.map_or(1, |program| test_writer(&program, compiled, &mut report));
+    let findings = read.map_or(1, |program| test_writer(&program, mir, &mut report));
     if findings == 0 {
         test_plants(sources, &mut report);
     } else {
@@ -51,11 +53,14 @@ fn all_read(sources: &Sources, read: &Result<Program, Finding>) -> Claim {
 }
 
 /// How many findings the walk from the writer has.
-fn test_writer(program: &Program, compiled: &[&str], report: &mut Report) -> usize {
+fn test_writer(program: &Program, mir: &Mir, report: &mut Report) -> usize {
     let walked = walk(program, WRITER);
     let names = walked.names();
     report.count(&right_way(program, &names));
-    report.count(&none_missed(&names, compiled));
+    let public = functions(program, WRITER, true);
+    let followed = follow(mir, public.iter().map(|place| program.name(place)));
+    report.count(&none_missed(&names, &followed));
+    report.count(&short_as_compiled(&followed));
     let from = walked.roots;
     let resolved = format!(
         "{} calls from {from} public functions, each resolved",
@@ -79,17 +84,26 @@ fn right_way(program: &Program, names: &[String]) -> Claim {
     claim
 }
 
-/// Each function that the compiler has is reached: it resolves calls in its own way.
-fn none_missed(names: &[String], compiled: &[&str]) -> Claim {
+/// Each function that the compiler calls is reached: it resolves calls in its own way.
+fn none_missed(names: &[String], followed: &Followed) -> Claim {
     let what = format!(
-        "{} functions of the compiler are among them",
-        compiled.len()
+        "{} functions that the compiler calls are among them",
+        followed.functions.len()
     );
     let mut claim = Claim::new(what);
-    claim.sample(!compiled.is_empty(), || "it has none".to_string());
-    for name in compiled {
+    for name in &followed.functions {
         let is_reached = names.iter().any(|reached| reached == name);
         claim.sample(is_reached, || format!("`{name}` is not"));
+    }
+    claim
+}
+
+/// As the compiler has them, none of these names a long array, nor calls what it does not name.
+fn short_as_compiled(followed: &Followed) -> Claim {
+    let what = format!("as compiled, they have no array longer than {LONGEST} bytes");
+    let mut claim = Claim::new(what);
+    for says in &followed.says {
+        claim.sample(false, || says.clone());
     }
     claim
 }
@@ -119,6 +133,12 @@ fn test_plants(sources: &Sources, report: &mut Report) {
     for plant in PLANTS {
         let mut claim = Claim::new(format!("planted: {}", plant.what));
         let outcome = planted::holds(sources, WRITER, plant);
+        claim.sample(outcome.is_ok(), || outcome.err().unwrap_or_default());
+        report.count_own(&claim);
+    }
+    for plant in mir_planted::PLANTS {
+        let mut claim = Claim::new(format!("planted: {}", plant.what));
+        let outcome = mir_planted::holds(plant);
         claim.sample(outcome.is_ok(), || outcome.err().unwrap_or_default());
         report.count_own(&claim);
     }

@@ -2,7 +2,6 @@
 // what is printed sums up what came of it, so that two programs can be compared.
 #![tactic(auto)]
 
-use libc::STDIN_FILENO;
 use plantext::show;
 use slots::{Planned, Verdict};
 
@@ -13,10 +12,8 @@ const PLAN: usize = 256;
 // The digits' number in a text, at most some billions; other bytes are passed over.
 fn times_in(text: &[u8]) -> u64 {
     let mut times: u64 = 0;
-    let mut i = 0;
-    while i < text.len() {
-        times = with_digit(times, text[i]);
-        i += 1;
+    for byte in text {
+        times = with_digit(times, *byte);
     }
     times
 }
@@ -36,10 +33,8 @@ fn with_digit(number: u64, byte: u8) -> u64 {
 
 // The rates of the job: 0 to 10 over and over, which fit in every order.
 fn fill(rates: &mut [u8]) {
-    let mut i = 0;
-    while i < rates.len() {
+    for i in 0..rates.len() {
         rates[i] = (i % 11) as u8;
-        i += 1;
     }
 }
 
@@ -101,22 +96,20 @@ fn turn_of(planning: bool, turn: u64, rates: &mut [u8], plan: &mut [u8]) -> u64 
 // The sum of what the turns gave.
 fn run(planning: bool, times: u64, rates: &mut [u8], plan: &mut [u8]) -> u64 {
     let mut sum: u64 = 0;
-    let mut turn = 0;
-    while turn < times {
+    for turn in 0..times {
         sum = (sum + turn_of(planning, turn, rates, plan) % 1000003) % 1000003;
-        turn += 1;
     }
     sum
 }
 
-fn main() {
-    let mut input = io::buffer();
-    let n = io::read_full(STDIN_FILENO, &mut input);
+fn main(rt: HostRuntime) {
+    let mut input = [0u8; 4096];
+    let n = plantext::read_full(&rt, &mut input);
     let times = times_in(&input[..n]);
     let mut rates = [0u8; RATES];
     let mut plan = [0u8; PLAN];
     fill(&mut rates);
     slots::planner::plan(&rates, &mut plan);
-    show::number(run(input[0] == b'p', times, &mut rates, &mut plan));
-    show::text(b"\n");
+    show::number(&rt, run(input[0] == b'p', times, &mut rates, &mut plan));
+    show::text(&rt, b"\n");
 }

@@ -5,50 +5,50 @@
 use plantext::{Came, show};
 use slots::Verdict;
 
-fn print_verdict(verdict: Verdict) {
+fn print_verdict(rt: &HostRuntime, verdict: Verdict) {
     match verdict {
-        Verdict::Accepted => show::text(b"accepted\n"),
-        Verdict::Refused(n) => show::refused(n),
-        Verdict::NotAPlan => show::text(b"not a plan\n"),
+        Verdict::Accepted => show::text(rt, b"accepted\n"),
+        Verdict::Refused(n) => show::refused(rt, n),
+        Verdict::NotAPlan => show::text(rt, b"not a plan\n"),
     }
 }
 
 // Checks so many rates and bytes of a plan.
-fn run(rates: &[u8], count: usize, plan: &[u8], size: usize) {
+fn run(rt: &HostRuntime, rates: &[u8], count: usize, plan: &[u8], size: usize) {
     if rates.len() < count {
         return;
     }
     if plan.len() < size {
         return;
     }
-    print_verdict(slots::check(&rates[..count], &plan[..size]));
+    print_verdict(rt, slots::check(&rates[..count], &plan[..size]));
 }
 
 // Reads the lines, and checks where all could be read. Where no dash came, the line that should have it cannot be read.
-fn answer(text: &[u8], n: usize, whole: bool, rates: &mut [u8], plan: &mut [u8]) {
+fn answer(rt: &HostRuntime, text: &[u8], n: usize, whole: bool, rates: &mut [u8], plan: &mut [u8]) {
     if text.len() < n {
         return;
     }
     let input = plantext::read_lines(&text[..n], plantext::RATES_THEN_DASH, rates, plan);
     if input.bad {
-        return show::bad_line(input.lines);
+        return show::bad_line(rt, input.lines);
     }
     if !whole {
-        return show::bad_line(input.lines);
+        return show::bad_line(rt, input.lines);
     }
     if input.phase != plantext::BLOCKS {
-        return show::bad_line(input.lines);
+        return show::bad_line(rt, input.lines);
     }
-    run(rates, input.rates, plan, input.plan);
+    run(rt, rates, input.rates, plan, input.plan);
 }
 
-fn main() {
-    let mut lines = io::large_buffer();
-    let mut rates = io::buffer();
-    let mut plan = io::buffer();
-    match plantext::read_text(&mut lines) {
-        Came::Failed => os::fail(b"standard input"),
-        Came::Text(n) => answer(&lines, n, true, &mut rates, &mut plan),
-        Came::Start(n) => answer(&lines, n, false, &mut rates, &mut plan),
+fn main(rt: HostRuntime) {
+    let mut lines = [0u8; 65536];
+    let mut rates = [0u8; 4096];
+    let mut plan = [0u8; 4096];
+    match plantext::read_text(&rt, &mut lines) {
+        Came::Failed(error) => show::failed(&rt, "standard input", error),
+        Came::Text(n) => answer(&rt, &lines, n, true, &mut rates, &mut plan),
+        Came::Start(n) => answer(&rt, &lines, n, false, &mut rates, &mut plan),
     }
 }

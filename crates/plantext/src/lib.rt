@@ -4,8 +4,11 @@
 pub mod scan;
 pub mod show;
 
-use libc::STDIN_FILENO;
+ghost use Rattle.std.specs.Prelude.{◌≤◌, length};
+
 use scan::{Found, Scan};
+use std::io;
+use std::io::Read;
 
 // Which lines may come: rates alone; rates and then a dash; blocks behind the dash.
 pub const RATES: u8 = 0;
@@ -25,25 +28,37 @@ pub struct Input {
 }
 
 // What standard input brought: the whole text's length; or only its start, since there is more than fits; or a failure.
-#[derive(Clone, Copy)]
+#[derive(Drop)]
 pub enum Came {
     Text(usize),
     Start(usize),
-    Failed,
+    Failed(io::Error),
+}
+
+// Reads until `buf` is full, the input ends or a read fails: how many bytes are at the start of `buf`.
+pub fn read_full(rt: &HostRuntime, buf: &mut [u8]) -> usize
+    ensures { result ≤ length buf.new }
+{
+    let mut done = 0;
+    while done < buf.len() {
+        match rt.stdin().read(&mut buf[done..]) {
+            Ok(0) => break,
+            Ok(n) => done += n,
+            Err(_) => break,
+        }
+    }
+    done
 }
 
 // Reads standard input up to its end, or until `text` is full.
-pub fn read_text(text: &mut [u8]) -> Came {
-    let n = io::read_full(STDIN_FILENO, text);
+pub fn read_text(rt: &HostRuntime, text: &mut [u8]) -> Came {
+    let n = read_full(rt, text);
     let mut more = [0u8; 1];
-    let got = libc::read(STDIN_FILENO, &mut more);
-    if got < 0 {
-        return Came::Failed;
+    match rt.stdin().read(&mut more) {
+        Ok(0) => Came::Text(n),
+        Ok(_) => Came::Start(n),
+        Err(error) => Came::Failed(error),
     }
-    if got == 0 {
-        return Came::Text(n);
-    }
-    Came::Start(n)
 }
 
 // Puts a byte where there is room; a list that has none is longer than any that is accepted.
@@ -149,16 +164,14 @@ pub fn read_lines(text: &[u8], phase: u8, rates: &mut [u8], plan: &mut [u8]) -> 
         bad: false,
     };
     let mut at = scan::start();
-    let mut i = 0;
-    while i < text.len() {
-        let step = scan::step(at, text[i]);
+    for byte in text {
+        let step = scan::step(at, *byte);
         at = step.scan;
         let found = step.found;
         input = with_found(input, found, rates, plan);
         if input.bad {
             return input;
         }
-        i += 1;
     }
     let last = scan::end(at);
     with_found(input, last, rates, plan)

@@ -107,6 +107,7 @@ pub fn read_archive(datagram: &[u8]) -> Reading
 
 // Whether a datagram is one PDU, taken and already in written form. It does not go by `reading_refusal`, which the compiler inlines where one place
 // alone calls it.
+#[tactic(auto, unfolding(pdu::specs::Writing::in_written_form))]
 pub fn is_written(datagram: &[u8]) -> bool
     ensures { result ≡ in_written_form datagram.now }
 {
@@ -121,6 +122,7 @@ pub fn is_written(datagram: &[u8]) -> bool
 }
 
 // What bytes hold that should be in written form.
+#[tactic(auto, unfolding(pdu::specs::Writing::carried))]
 pub fn read_carried(datagram: &[u8]) -> Carried
     ensures answer { result ≡ carried datagram.now }
     ensures says { carried_says result ≡ carried_said datagram.now }

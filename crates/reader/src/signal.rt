@@ -15,6 +15,7 @@ use crate::{start, words};
 use pdu::{Network, Signal, refusals};
 
 // Whether refusal 12 applies to a data length in bits.
+#[tactic(auto, unfolding(pdu::specs::Reading::wrong_bits))]
 fn wrong_bits(bits: u16) -> bool
     ensures { result ≡ wrong_bits bits }
 {
@@ -22,6 +23,7 @@ fn wrong_bits(bits: u16) -> bool
 }
 
 // The number of the first broken rule of 4, 10, 11, 12 and 8, or 0.
+#[tactic(auto, unfolding(pdu::specs::Reading::signal_layout))]
 fn layout_refusal(d: &[u8]) -> u8
     requires { shortest ≤ length d.now }
     ensures { result ≡ first (signal_layout d.now) }
@@ -61,6 +63,7 @@ fn body_end(d: &[u8]) -> usize
     pdu::BODY_START + body_size(d) as usize
 }
 
+#[tactic(auto, unfolding(pdu::specs::Reading::signal_of))]
 fn read_network(d: &[u8]) -> Network
     requires { body_start ≤ length d.now }
     ensures { result ≡ (signal_of d.now).network }
@@ -79,6 +82,7 @@ fn read_network(d: &[u8]) -> Network
 }
 
 // The number of the first broken rule of the body, which starts at byte 52, or 0.
+#[tactic(auto, unfolding(pdu::specs::Reading::signal_of))]
 pub(crate) fn body_refusal(d: &[u8]) -> u8
     requires { first (signal_layout d.now) ≡ 0 }
     ensures { result ≡ first (body_rules (signal_of d.now).network.message_type (body_size d.now)) }
@@ -88,6 +92,7 @@ pub(crate) fn body_refusal(d: &[u8]) -> u8
 }
 
 // The number of the first broken rule of the network header, retired types included, and of the body, or 0.
+#[tactic(auto, unfolding(pdu::specs::Rules::access_rules, pdu::specs::Rules::inner_rules, pdu::specs::Rules::live_rules, pdu::specs::Rules::network_rules, pdu::specs::Rules::slot_rules))]
 fn inner_refusal(d: &[u8]) -> u8
     requires { first (signal_layout d.now) ≡ 0 }
     ensures { result ≡ first (inner_rules (a_signal (signal_of d.now) (body_size d.now))) }
@@ -112,6 +117,7 @@ pub(crate) fn refusal(d: &[u8]) -> u8
 }
 
 // The fields of a Signal.
+#[tactic(auto, unfolding(pdu::specs::Reading::header_of, pdu::specs::Reading::signal_of))]
 pub(crate) fn fields(d: &[u8]) -> Signal
     requires { body_start ≤ length d.now }
     ensures { result ≡ signal_of d.now }
@@ -137,6 +143,7 @@ fn is_slot_blank(d: &[u8]) -> bool
 }
 
 // Whether the padding inside the body is zero: round-trip timing alone has any.
+#[tactic(auto, unfolding(pdu::specs::Reading::signal_of))]
 fn is_body_blank(d: &[u8]) -> bool
     requires { (first (signal_layout d.now) ≡ 0) × (first (inner_rules (a_signal (signal_of d.now) (body_size d.now))) ≡ 0) }
     ensures { result ≡ body_blank d.now }
@@ -148,6 +155,7 @@ fn is_body_blank(d: &[u8]) -> bool
 }
 
 // Whether every padding bit of a Signal that breaks no rule and is the whole slice, and its fill, is zero.
+#[tactic(auto, unfolding(pdu::specs::Reading::signal_of))]
 fn is_blank(d: &[u8]) -> bool
     requires { Alone d.now }
     ensures { result ≡ all_blank 0 (table_of (a_signal (signal_of d.now) (body_size d.now))) d.now }

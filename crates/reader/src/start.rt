@@ -9,6 +9,7 @@ ghost use Rattle.pdu.specs.Reading.{version_seven, header_of, wrong_type, wrong_
 use pdu::{Header, refusals};
 
 // Whether refusal 3 applies.
+#[tactic(auto, unfolding(pdu::specs::Reading::wrong_type))]
 fn wrong_type(d: &[u8]) -> bool
     requires { shortest ≤ length d.now }
     ensures { result ≡ wrong_type d.now }
@@ -22,6 +23,7 @@ fn wrong_type(d: &[u8]) -> bool
 }
 
 // The number of the first broken rule of 1, 2 and 3, or 0.
+#[tactic(auto, unfolding(pdu::specs::Reading::start_rules))]
 pub(crate) fn refusal(d: &[u8]) -> u8
     ensures { result ≡ first (start_rules d.now) }
 {
@@ -38,6 +40,7 @@ pub(crate) fn refusal(d: &[u8]) -> u8
 }
 
 // Whether refusal 4 applies, for a PDU whose length field is at least `least`: it may end before the slice does.
+#[tactic(auto, unfolding(pdu::specs::Reading::wrong_length))]
 pub(crate) fn wrong_length(least: u16, d: &[u8]) -> bool
     requires { shortest ≤ length d.now }
     ensures { result ≡ wrong_length least d.now }
@@ -47,6 +50,7 @@ pub(crate) fn wrong_length(least: u16, d: &[u8]) -> bool
 }
 
 // The status in byte 10, which versions 5 and 6 have not.
+#[tactic(auto, unfolding(pdu::specs::Reading::header_of))]
 fn read_status(d: &[u8]) -> u8
     requires { width (header_table true 0 0) ≤ length d.now }
     ensures { result ≡ (header_of d.now).status }
@@ -69,6 +73,7 @@ pub(crate) fn is_blank(d: &[u8]) -> bool
 }
 
 // The shared fields.
+#[tactic(auto, unfolding(pdu::specs::Reading::header_of))]
 pub(crate) fn read_header(d: &[u8]) -> Header
     requires { width (header_table true 0 0) ≤ length d.now }
     ensures { result ≡ header_of d.now }

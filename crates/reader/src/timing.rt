@@ -6,6 +6,7 @@ ghost use Rattle.pdu.specs.Fields.{plain_timing};
 use pdu::Timing;
 
 // The field of a body of round-trip timing, or Absent where the body is too short for it.
+#[tactic(auto, unfolding(pdu::specs::Timing::timing_at))]
 pub fn at(body: &[u8]) -> Timing
     ensures answer { result ≡ timing_at body.now }
     ensures says { timing_says result ≡ plain_timing body.now }

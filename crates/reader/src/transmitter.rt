@@ -15,6 +15,7 @@ use pdu::{Antenna, Emission, Entity, Sync, Transmitter, refusals};
 const MAJOR_AND_DETAIL: u32 = pdu::MAJOR as u32 * 65536 + pdu::DETAIL as u32;
 
 // Whether refusal 5 applies.
+#[tactic(auto, unfolding(pdu::specs::Reading::wrong_fixed))]
 fn wrong_fixed(d: &[u8]) -> bool
     requires { transmitter_least ≤ length d.now }
     ensures { result ≡ wrong_fixed d.now }
@@ -28,6 +29,7 @@ fn wrong_fixed(d: &[u8]) -> bool
 }
 
 // Whether refusal 64 applies.
+#[tactic(auto, unfolding(pdu::specs::Reading::wrong_records))]
 fn wrong_records(d: &[u8]) -> bool
     requires { transmitter_least ≤ length d.now }
     ensures { result ≡ wrong_records d.now }
@@ -37,6 +39,7 @@ fn wrong_records(d: &[u8]) -> bool
 }
 
 // The number of the first broken rule of 4 to 7, 64 and 8, or 0.
+#[tactic(auto, unfolding(pdu::specs::Reading::transmitter_layout))]
 fn layout_refusal(d: &[u8]) -> u8
     requires { shortest ≤ length d.now }
     ensures { result ≡ first (transmitter_layout d.now) }
@@ -62,6 +65,7 @@ fn layout_refusal(d: &[u8]) -> u8
     0
 }
 
+#[tactic(auto, unfolding(pdu::specs::Reading::transmitter_of))]
 fn read_sync(d: &[u8]) -> Sync
     requires { transmitter_size ≤ length d.now }
     ensures { result ≡ (transmitter_of d.now).sync }
@@ -76,6 +80,7 @@ fn read_sync(d: &[u8]) -> Sync
 }
 
 // The number of the first rule from 4 on that is broken, or 0.
+#[tactic(auto, unfolding(pdu::specs::Rules::inner_rules))]
 pub(crate) fn refusal(d: &[u8]) -> u8
     requires { shortest ≤ length d.now }
     ensures { result ≡ first (form_rules (a_transmitter (transmitter_of d.now)) d.now) }
@@ -90,6 +95,7 @@ pub(crate) fn refusal(d: &[u8]) -> u8
     0
 }
 
+#[tactic(auto, unfolding(pdu::specs::Reading::transmitter_of))]
 fn read_entity(d: &[u8]) -> Entity
     requires { transmitter_size ≤ length d.now }
     ensures { result ≡ (transmitter_of d.now).entity }
@@ -104,6 +110,7 @@ fn read_entity(d: &[u8]) -> Entity
     }
 }
 
+#[tactic(auto, unfolding(pdu::specs::Reading::transmitter_of))]
 fn read_antenna(d: &[u8]) -> Antenna
     requires { transmitter_size ≤ length d.now }
     ensures { result ≡ (transmitter_of d.now).antenna }
@@ -119,6 +126,7 @@ fn read_antenna(d: &[u8]) -> Antenna
     }
 }
 
+#[tactic(auto, unfolding(pdu::specs::Reading::transmitter_of))]
 fn read_emission(d: &[u8]) -> Emission
     requires { transmitter_size ≤ length d.now }
     ensures { result ≡ (transmitter_of d.now).emission }
@@ -134,6 +142,7 @@ fn read_emission(d: &[u8]) -> Emission
 }
 
 // The fields of a Transmitter of full size.
+#[tactic(auto, unfolding(pdu::specs::Reading::header_of, pdu::specs::Reading::transmitter_of))]
 pub(crate) fn fields(d: &[u8]) -> Transmitter
     requires { transmitter_size ≤ length d.now }
     ensures { result ≡ transmitter_of d.now }
@@ -158,6 +167,7 @@ fn is_blank(d: &[u8]) -> bool
 
 // Whether no rule from 4 on is broken, nothing stands behind the PDU, and every padding byte is zero. It goes by the parts of `refusal`, so that
 // these are inlined here too.
+#[tactic(auto, unfolding(pdu::specs::Rules::inner_rules, pdu::specs::Reading::transmitter_of))]
 pub(crate) fn is_written(d: &[u8]) -> bool
     requires { shortest ≤ length d.now }
     ensures { result ≡ written_as (a_transmitter (transmitter_of d.now)) d.now }

@@ -22,6 +22,7 @@ pub fn count(body: &[u8]) -> usize
 }
 
 // The format, label and sublabel of word i, or Absent where the body has no word i.
+#[tactic(auto, unfolding(pdu::specs::Words::word_at))]
 pub fn at(body: &[u8], i: usize) -> Word
     ensures answer { result ≡ word_at body.now i }
     ensures says { word_says result ≡ plain_word body.now i }

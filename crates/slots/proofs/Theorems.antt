@@ -153,8 +153,15 @@ module _ (rates : List ℕ) (room : ℕ) where
   is_63 : Answered rates room (63 ∷ []) → Pass rates × NoPlan rates
   is_63 (no_plan_exists p none) = (p, none)
 
-  is_written : Answered rates room (0 ∷ 4 * length rates ∷ []) → Pass rates × (total rates ≤ 98304) × (4 * length rates ≤ room)
-  is_written (written p h s) = (p, h, s)
+  is_written : (v : List ℕ)
+      → Answered rates room v
+      → v ≡ 0 ∷ 4 * length rates ∷ []
+      → Pass rates × (total rates ≤ 98304) × (4 * length rates ≤ room)
+  is_written v (more-rates h) e = let parted : ◌≡◌ {A = ℕ} 1 2 = ap length e in absurd (omega arith)
+  is_written v (high-rate h above) e = let parted : ◌≡◌ {A = ℕ} 1 2 = ap length e in absurd (omega arith)
+  is_written v (no_plan_exists p none) e = let parted : ◌≡◌ {A = ℕ} 1 2 = ap length e in absurd (omega arith)
+  is_written v (short_output p h s) e = let parted : ◌≡◌ {A = ℕ} 1 2 = ap length e in absurd (omega arith)
+  is_written v (written p h s) e = (p, h, s)
 
 -- ---- the output
 
@@ -190,7 +197,7 @@ module _ (rates out : List ℕ) where
   written_passes : Says rates out (0 ∷ 4 * length rates ∷ [])
       → verdict_says (verdict rates (take (4 * length rates) (plan_left rates out))) ≡ 0 ∷ []
   written_passes e =
-      let found = is_written rates (length out) (subst (Answered rates (length out)) e (answered rates (length out))) in
+      let found = is_written rates (length out) _ (answered rates (length out)) e in
       let wide = le-ltb (length out) (block_size * length rates) found.2 in
       let tests = late rates (length out) found.0 (not_over rates (length out) found.1) wide in
       let plan = ap (take (4 * length rates)) (left-written (sym tests)) ∙ take_at (plan_of rates) _ _ (length-plan rates (length rates)) in

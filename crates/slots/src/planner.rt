@@ -10,6 +10,9 @@ ghost use Rattle.slots.specs.Plain.{Pass};
 
 use super::{Block, Planned, refusals};
 
+// The slots of all three sets.
+const ALL_SLOTS: u32 = 98304;
+
 // 2 to the rate.
 fn power(rate: u8) -> u32
     requires { rate ≤ 15 }
@@ -146,7 +149,7 @@ fn plan_refusal(rates: &[u8], room: usize) -> u8
     if number != 0 {
         return number;
     }
-    if 98304 < wanted_slots(rates) {
+    if ALL_SLOTS < wanted_slots(rates) {
         return refusals::NO_PLAN;
     }
     if room < 4 * rates.len() {

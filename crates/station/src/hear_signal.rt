@@ -18,6 +18,7 @@ const COARSE_LEVEL: u8 = 4;
 const PPLI_LABEL: u8 = 2;
 
 // Whether refusal 33 applies to the station's ID and the sender's.
+#[tactic(auto, unfolding(crate::specs::Hearing::other_id))]
 fn other_id(own: u32, sender: u32) -> bool
     ensures { result ≡ other_id own sender }
 {
@@ -28,6 +29,7 @@ fn other_id(own: u32, sender: u32) -> bool
 }
 
 // What an initial word says.
+#[tactic(auto, unfolding(crate::specs::Hearing::labelled))]
 fn labelled_message(label: u8, sublabel: u8) -> Message
     ensures { result ≡ labelled label sublabel }
 {
@@ -41,6 +43,7 @@ fn labelled_message(label: u8, sublabel: u8) -> Message
 }
 
 // What a first word says, by the message type.
+#[tactic(auto, unfolding(crate::specs::Hearing::word_saying))]
 fn word_message(kind: u8, word: Word) -> Message
     ensures { result ≡ word_saying kind word }
 {
@@ -61,6 +64,7 @@ fn word_message(kind: u8, word: Word) -> Message
 }
 
 // What a Signal says, by its message type and first word.
+#[tactic(auto, unfolding(crate::specs::Hearing::message_of))]
 fn message(kind: u8, word: Word) -> Message
     ensures { result ≡ message_of kind word }
 {
@@ -134,6 +138,7 @@ fn standing_after(own: Own, sender: Unit) -> Standing
 }
 
 // A J0.0 from the part's unit: 34 or 42.
+#[tactic(auto, unfolding(crate::specs::Hearing::after_j00, crate::specs::Hearing::heard_message))]
 fn net_entry(mut p: Part) -> Outcome
     ensures { Decides (λ s i. heard_message s i NetEntry) p result }
 {
@@ -169,6 +174,7 @@ fn heard_unit(now: u64, u: Unit) -> Unit
 }
 
 // A PPLI from the part's unit: 34 or 43.
+#[tactic(auto, unfolding(crate::specs::Hearing::after_ppli, crate::specs::Hearing::heard_message))]
 fn ppli(mut p: Part) -> Outcome
     ensures { Decides (λ s i. heard_message s i Ppli) p result }
 {
@@ -252,6 +258,7 @@ fn standing_timed(own: Own) -> Standing
 }
 
 // A timing reply from the part's unit: 34, 47 or 44.
+#[tactic(auto, unfolding(crate::specs::Hearing::after_timing, crate::specs::Hearing::heard_message))]
 fn timing_reply(mut p: Part) -> Outcome
     ensures { Decides (λ s i. heard_message s i TimingReply) p result }
 {
@@ -279,6 +286,7 @@ fn timing_reply(mut p: Part) -> Outcome
 }
 
 // An interrogation from the part's unit: 44.
+#[tactic(auto, unfolding(crate::specs::Hearing::heard_message))]
 fn interrogation(p: Part) -> Outcome
     ensures { Decides (λ s i. heard_message s i Interrogation) p result }
 {
@@ -289,6 +297,7 @@ fn interrogation(p: Part) -> Outcome
 }
 
 // All else from the part's unit: 35 or 44.
+#[tactic(auto, unfolding(crate::specs::Hearing::heard_message))]
 fn other(p: Part) -> Outcome
     ensures { Decides (λ s i. heard_message s i Other) p result }
 {
@@ -321,6 +330,7 @@ fn taken(p: Part, m: Message) -> Outcome
 }
 
 // A Signal and the first word of its body: 31 to 35, 42 to 44, or 47.
+#[tactic(auto, unfolding(crate::specs::Hearing::heard_signal, crate::specs::Hearing::signal_rules))]
 pub(crate) fn signal(p: Part, g: Signal, word: Word) -> Outcome
     ensures { DecidesFor (key_of g.header) (λ s. heard_signal s g word) p result }
 {

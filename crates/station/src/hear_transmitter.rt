@@ -37,6 +37,7 @@ fn renewed_unit(u: Unit, t: Transmitter) -> Unit
 }
 
 // A Transmitter whose key is unknown.
+#[tactic(auto, unfolding(crate::specs::Hearing::enter))]
 fn enter_unit(mut p: Part, t: Transmitter) -> Outcome
     ensures { Decides (λ s i. enter s t) p result }
 {
@@ -59,6 +60,7 @@ fn enter_unit(mut p: Part, t: Transmitter) -> Outcome
 }
 
 // A Transmitter: 40, 41 or 30.
+#[tactic(auto, unfolding(crate::specs::Hearing::heard_transmitter, crate::specs::Hearing::renew))]
 pub(crate) fn transmitter(mut p: Part, t: Transmitter) -> Outcome
     ensures { DecidesFor (key_of t.header) (λ s. heard_transmitter s t) p result }
 {

@@ -145,6 +145,7 @@ pub enum Place {
 }
 
 // A station of these settings before its first call.
+#[tactic(auto, unfolding(crate::specs::Units::fresh))]
 fn fresh_station(settings: Settings) -> Station
     ensures { result ≡ fresh settings }
 {
@@ -191,6 +192,7 @@ fn wrong_settings(settings: Settings) -> bool
 
 // Makes a station of this level and net, with this number of exchanges of round-trip timing and this absence limit in seconds; 37 where the
 // level is above 4, the net above 127, the exchanges are not 1 to 16, or the limit is not 24 to 600.
+#[tactic(auto, unfolding(crate::specs::Units::made))]
 pub fn with_limit(level: u8, net: u8, exchanges: u8, limit: u16) -> Made
     ensures { result ≡ made (settings_of level net exchanges limit) }
 {
@@ -226,6 +228,7 @@ pub fn new(level: u8, net: u8, exchanges: u8) -> Made
 }
 
 // What a reading of the datagram makes of the part with its sender's place.
+#[tactic(auto, unfolding(crate::specs::Hearing::heard, crate::specs::Hearing::step))]
 fn outcome_of(part: Part, read: Reading, datagram: &[u8]) -> Outcome
     requires { read ≡ reading datagram.now }
     ensures { DecidesFor (sender_key read) (λ s. heard s datagram.now) part result }
@@ -243,6 +246,7 @@ fn outcome_of(part: Part, read: Reading, datagram: &[u8]) -> Outcome
 
 // The station's call on a datagram: the reader's number, 30 to 35, 40 to 44, or 47. The sender is looked for here: to hand the entries to a function
 // would copy them.
+#[tactic(auto, unfolding(crate::specs::Units::place_of))]
 pub fn hear(station: Station, datagram: &[u8]) -> Heard
     ensures { result ≡ heard station datagram.now }
 {
@@ -284,6 +288,7 @@ pub fn hear(station: Station, datagram: &[u8]) -> Heard
 }
 
 // The station's call on a clock: 36 where it would go back, else 46 and the silent units removed.
+#[tactic(auto, unfolding(crate::specs::Clock::at_time, crate::specs::Clock::clocked))]
 pub fn clock(station: Station, t: u64) -> Heard
     ensures { result ≡ clocked station t }
 {
@@ -392,6 +397,7 @@ pub fn units_held(station: Station) -> u32
 }
 
 // What the station knows of a key.
+#[tactic(auto, unfolding(crate::specs::Units::place_of, crate::specs::Units::seen_of))]
 pub fn look(station: Station, key: u64) -> Seen
     ensures { result ≡ seen_of station key }
 {
@@ -410,6 +416,7 @@ pub fn look(station: Station, key: u64) -> Seen
 }
 
 // What place i holds; there are places 0 to 15.
+#[tactic(auto, unfolding(crate::specs::Units::place_at))]
 pub fn at(station: Station, i: usize) -> Place
     ensures { result ≡ place_at station i }
 {

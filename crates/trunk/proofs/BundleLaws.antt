@@ -2,7 +2,7 @@
 -- and goes on with what stands behind it (`slice_next`); so the definitions say of every slice what it is in plain numbers (`walked`), and nothing
 -- else is true of it (`walked_only`), since bytes behind a PDU do not change how it is read.
 -- Assumes nothing.
-use Prim.Native.Nat.{ℕ, zero, suc, ◌+◌, ◌≤◌, ◌<◌}
+use Prim.Native.Nat.{ℕ, zero, suc, ◌≤◌, ◌<◌}
 use mathlib.Core.Path.{◌≡◌, refl, sym, ap, ap₂, subst, ◌∙◌}
 use mathlib.Core.Logic.{◌≢◌, ◌⊎◌, inl, inr}
 use mathlib.Core.Bool.{Bool, true, false, cond, not, true≢false}

@@ -458,12 +458,12 @@ unfolding stored_all
 bundle-keeps {station} {near} {store} {far} {v} h [] bytes all whole numbers free =
     subst₂ (λ (n : Near) (s : Seen). Holds station n store far s) (sym (more_none near)) (sym (accepts_none v)) h
 bundle-keeps {station} {near} {store} {far} {v} h (p ∷ ps) (b, bytes) (one, all) whole numbers free =
-    let kind = eqb-false _ _ ((type_says p one.taken).1 one.carried) in
     let fits : OneFits near store = record { whole = whole; more = omega arith; free = omega arith } in
+    let kind = eqb-false _ _ ((type_says p one.taken).1 one.carried) in
     let full = length-sets store (row_start near.accepted) (offer_record near.accepted p) ∙ whole in
     let qs : List (List ℕ) = map written_form ps in
     let rs : List (List ℕ) = records_from (near.accepted + 1) qs in
-    let rest = bundle-keeps (one_keeps h p b kind fits) ps bytes all full (omega arith) (omega arith) in
+    let rest = bundle-keeps {near = more_accepted near 1} (one_keeps h p b kind fits) ps bytes all full (omega arith) (omega arith) in
     subst₂ (λ (n : Near) (s : Seen). Holds station n (stored_all (near.accepted + 1) (stored near.accepted store p) ps) far s)
     (more_next near (length ps))
     (accepts_next v (written_form p) (record_for near.accepted (written_form p)) qs rs)

@@ -49,6 +49,7 @@ pub fn station(far: Far) -> Station
 }
 
 // Writes a reply with this count from the start of a reply buffer.
+#[tactic(auto, unfolding(crate::specs::Record::record_of))]
 fn put_reply(reply: &mut [u8], count: u32)
     requires { head_size ≤ length reply.old }
     ensures { reply.new ≡ splice 0 (reply_of count) reply.old }
@@ -61,6 +62,7 @@ fn put_reply(reply: &mut [u8], count: u32)
 }
 
 // Whether a record with this number is the next.
+#[tactic(auto, unfolding(crate::specs::Far::is_next))]
 fn is_next(k: u32, number: u32) -> bool
     ensures { result ≡ is_next k number }
 {
@@ -68,6 +70,7 @@ fn is_next(k: u32, number: u32) -> bool
 }
 
 // The count after a record with this number.
+#[tactic(auto, unfolding(crate::specs::Far::count_after))]
 fn count_after(k: u32, number: u32) -> u32
     requires { number < last_number }
     ensures { result ≡ count_after k number }
@@ -98,6 +101,7 @@ fn deliver(count: u32, station: Station, pdu: &[u8], out: &mut [u8]) -> Arrived
 
 // A record arrives: the next number's PDU is put out and the station hears it; a repeat and an early record change nothing. Each gets a
 // reply with the count after it.
+#[tactic(auto, unfolding(crate::specs::Far::arrived, crate::specs::Far::output_after, crate::specs::Far::reply_after))]
 pub fn arrive(far: Far, received: &[u8], reply: &mut [u8], out: &mut [u8]) -> Arrived
     ensures { ArrivalGives far received.now reply.old out.old result reply.new out.new }
 {
@@ -130,6 +134,7 @@ pub fn arrive(far: Far, received: &[u8], reply: &mut [u8], out: &mut [u8]) -> Ar
 }
 
 // The far end's clock: its station's.
+#[tactic(auto, unfolding(crate::specs::Far::ticked))]
 pub fn tick(far: Far, t: u64) -> Ticked
     ensures { result ≡ ticked far t }
 {

@@ -56,6 +56,7 @@ fn row_start(number: u32) -> usize
 }
 
 // The number that stops a PDU, by what reading answered, or 0.
+#[tactic(auto, unfolding(crate::specs::Bundle::stop_of))]
 fn stop_of(answer: Reading) -> u8
     ensures { result ≡ stop_of answer }
 {
@@ -101,6 +102,7 @@ fn bundle_of(datagram: &[u8]) -> Walk
 }
 
 // The number of the first broken rule of an offer, by the number that stops its slice and how many PDUs that has, or 0.
+#[tactic(auto, unfolding(crate::specs::Near::offer_rules_of))]
 fn offer_refusal(near: Near, store_length: usize, stop: u8, pdus: usize) -> u8
     ensures { result ≡ first (offer_rules_of near store_length stop pdus) }
 {
@@ -175,6 +177,7 @@ fn put_first(store: &mut [u8], number: u32, datagram: &[u8]) -> usize
 }
 
 // Writes the records of a bundle's PDUs, each into the row of its number, from this number on.
+#[tactic(auto, unfolding(crate::specs::Near::stored_all))]
 fn put_bundle(store: &mut [u8], number: u32, datagram: &[u8])
     requires { (length store.old ≡ store_size) × (bundle_stop datagram.now ≡ 0) × (number + length (bundle datagram.now) ≤ last_number) }
     ensures { store.new ≡ stored_all number store.old (bundle datagram.now) }
@@ -188,6 +191,7 @@ fn put_bundle(store: &mut [u8], number: u32, datagram: &[u8])
 }
 
 // Offers a datagram: takes all its PDUs under the next numbers, and writes their records into the rows of these in the store, or takes none.
+#[tactic(auto, unfolding(crate::specs::Near::offered, crate::specs::Near::store_after))]
 pub fn offer(near: Near, store: &mut [u8], datagram: &[u8]) -> Offered
     ensures { OfferGives near store.old datagram.now result store.new }
 {
@@ -211,6 +215,7 @@ pub fn offer(near: Near, store: &mut [u8], datagram: &[u8]) -> Offered
 }
 
 // The number of the first broken rule of a send, or 0.
+#[tactic(auto, unfolding(crate::specs::Near::send_rules))]
 fn send_refusal(near: Near, store: &[u8], i: u32, room: usize) -> u8
     ensures { result ≡ first (send_rules near store.now i room) }
 {
@@ -235,6 +240,7 @@ fn send_refusal(near: Near, store: &[u8], i: u32, room: usize) -> u8
 }
 
 // Sends number i: its record, as its row of the store has it, from the start of `out`. The near end stays as it was.
+#[tactic(auto, unfolding(crate::specs::Near::sent, crate::specs::Near::sent_out))]
 pub fn send(near: Near, store: &[u8], i: u32, out: &mut [u8]) -> Sending
     ensures { SendGives near store.now i out.old result out.new }
 {
@@ -256,6 +262,7 @@ pub fn send(near: Near, store: &[u8], i: u32, out: &mut [u8]) -> Sending
 }
 
 // Takes a reply: a number below the acknowledged count changes nothing, any other becomes that count.
+#[tactic(auto, unfolding(crate::specs::Near::replied))]
 pub fn take_reply(near: Near, received: &[u8]) -> Replied
     ensures { ReplyGives near received.now result }
 {

@@ -47,6 +47,7 @@ pub(crate) fn put_head(out: &mut [u8], head: Head)
 }
 
 // Whether a record is a reply.
+#[tactic(auto, unfolding(crate::specs::Record::is_reply))]
 fn is_reply(r: &[u8]) -> bool
     requires { head_size ≤ length r.now }
     ensures { result ≡ is_reply r.now }
@@ -55,6 +56,7 @@ fn is_reply(r: &[u8]) -> bool
 }
 
 // Whether refusal 22 applies.
+#[tactic(auto, unfolding(pdu::specs::Writing::carried, crate::specs::Record::wrong_carried))]
 fn wrong_carried(r: &[u8]) -> bool
     requires { head_size ≤ length r.now }
     ensures { result ≡ wrong_carried r.now }
@@ -68,6 +70,7 @@ fn wrong_carried(r: &[u8]) -> bool
 }
 
 // The number of the first broken rule on a record's form, or 0.
+#[tactic(auto, unfolding(crate::specs::Record::form_rules, crate::specs::Record::wrong_size))]
 fn form_refusal(r: &[u8]) -> u8
     ensures { result ≡ first (form_rules r.now) }
 {
@@ -85,6 +88,7 @@ fn form_refusal(r: &[u8]) -> u8
 }
 
 // The number of the first broken rule on a record's PDU, or 0; a reply has none.
+#[tactic(auto, unfolding(crate::specs::Record::last_of_all, crate::specs::Record::pdu_rules, crate::specs::Record::wrong_carried))]
 fn pdu_refusal(r: &[u8]) -> u8
     requires { head_size ≤ length r.now }
     ensures { result ≡ first (pdu_rules r.now) }
@@ -114,6 +118,7 @@ fn check_refusal(r: &[u8]) -> u8
 }
 
 // The number of the first broken rule of taking a reply, or 0.
+#[tactic(auto, unfolding(crate::specs::Near::reply_rules))]
 pub(crate) fn reply_refusal(near: Near, r: &[u8]) -> u8
     ensures { result ≡ first (reply_rules near r.now) }
 {
@@ -132,6 +137,7 @@ pub(crate) fn reply_refusal(near: Near, r: &[u8]) -> u8
 }
 
 // The number of the first broken rule of an arrival, or 0.
+#[tactic(auto, unfolding(crate::specs::Far::arrival_rules))]
 pub(crate) fn arrival_refusal(r: &[u8], reply_room: usize, room: usize) -> u8
     ensures { result ≡ first (arrival_rules r.now reply_room room) }
 {
@@ -153,6 +159,7 @@ pub(crate) fn arrival_refusal(r: &[u8], reply_room: usize, room: usize) -> u8
 }
 
 // Checks a record, as the lister and the host do.
+#[tactic(auto, unfolding(crate::specs::Record::checked))]
 pub fn check(received: &[u8]) -> Checked
     ensures answer { result ≡ checked received.now }
     ensures says { checked_says result ≡ check_says received.now }

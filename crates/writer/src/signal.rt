@@ -16,6 +16,7 @@ use crate::header;
 use pdu::{Network, Signal, refusals};
 
 // The number of the first broken rule of the network header, retired types included, and of a body of n bytes, or 0.
+#[tactic(auto, unfolding(pdu::specs::Rules::access_rules, pdu::specs::Rules::inner_rules, pdu::specs::Rules::live_rules, pdu::specs::Rules::network_rules, pdu::specs::Rules::slot_rules))]
 fn inner_refusal(s: Signal, n: usize) -> u8
     ensures { result ≡ first (inner_rules (a_signal s n)) }
 {
@@ -28,6 +29,7 @@ fn inner_refusal(s: Signal, n: usize) -> u8
 }
 
 // The number of the first broken rule of a Signal with a body of n bytes, or 0.
+#[tactic(auto, unfolding(pdu::specs::Writing::record_rules))]
 fn record_refusal(s: Signal, n: usize) -> u8
     ensures { result ≡ first (record_rules (a_signal s n)) }
 {
@@ -44,6 +46,7 @@ fn record_refusal(s: Signal, n: usize) -> u8
 }
 
 // The number of the first rule of writing that is broken, or 0.
+#[tactic(auto, unfolding(pdu::specs::Writing::writing_rules))]
 pub(crate) fn refusal(s: Signal, n: usize, room: usize) -> u8
     ensures { result ≡ writing_refusal (a_signal s n) room }
 {
@@ -112,6 +115,7 @@ fn put_body(out: &mut [u8], message_type: u8, body: &[u8])
 }
 
 // Writes the whole PDU: what stands before the body, the body, and the fill.
+#[tactic(auto, unfolding(pdu::specs::Forms::bytes_of))]
 pub(crate) fn put(out: &mut [u8], s: Signal, body: &[u8])
     requires { writing_refusal (a_signal s (length body.now)) (length out.old) ≡ 0 }
     ensures { out.new ≡ splice 0 (bytes_of (a_signal s (length body.now)) body.now) out.old }

@@ -13,6 +13,7 @@ use crate::header;
 use pdu::{Antenna, Emission, Entity, Sync, Transmitter, refusals};
 
 // The number of the first rule of writing that is broken, or 0.
+#[tactic(auto, unfolding(pdu::specs::Rules::inner_rules, pdu::specs::Writing::record_rules, pdu::specs::Writing::writing_rules))]
 pub(crate) fn refusal(t: Transmitter, room: usize) -> u8
     ensures { result ≡ writing_refusal (a_transmitter t) room }
 {
@@ -74,6 +75,7 @@ fn put_sync(out: &mut [u8], s: Sync)
 }
 
 // Writes the whole PDU.
+#[tactic(auto, unfolding(pdu::specs::Forms::bytes_of))]
 pub(crate) fn put(out: &mut [u8], t: Transmitter)
     requires { transmitter_size ≤ length out.old }
     ensures { out.new ≡ splice 0 (bytes_of (a_transmitter t) []) out.old }

@@ -1,0 +1,105 @@
+-- `put_bundle` meets its contract: at each turn, what is stored of the rest of the slice from the place reached, under the numbers from `next` on,
+-- makes the store what the whole slice makes it (`onward` is one turn).
+use Prim.Native.Nat.{ℕ, ◌+◌}
+use mathlib.Core.List.{List}
+use mathlib.Core.Path.{◌≡◌, refl, sym, ap, ap₂, ◌∙◌}
+use lib.ListN.{length, drop}
+use native.Mathlib.Omega.{arith}
+use Rattle.pdu.specs.Reading.{reading, used}
+use Rattle.trunk.specs.Kinds.{kind_of}
+use Rattle.trunk.specs.Bundle.{first_pdu, stop_of, slice_stop, bundle}
+use Rattle.trunk.specs.Near.{stored, stored_all}
+use Rattle.trunk.proofs.BundleLaws.{offered-zero, Passes, passing, first-stored}
+use Rattle.trunk.proofs.WalkLaws.{rest_part, Onward, onward, goes_from, ended}
+use Rattle.trunk.proofs.near_end.put_bundle.Goals as goal
+
+pub loop-from-init : goal.loop-from-init
+loop-from-init c = record { inside = omega arith; none = offered-zero _ c.requires.1; whole = refl; numbers = c.requires.2; same = refl }
+
+pub put_first-from-requires : goal.put_first-from-requires
+put_first-from-requires c =
+    let R : List ℕ =
+    drop c.loop-from.from c.args.datagram.now in
+    let goes : stop_of (reading R) ≡ 0 =
+    goes_from _ _ c.loop-from-test.true c.loop-from.invariant.none in
+    let passes : Passes R =
+    passing _ goes in
+    let l = c.loop-from in
+    let d : List ℕ = c.args.datagram.now in (
+      l.invariant.whole ∙ c.requires.0,
+      λ none. passes.kind (sym (ap (λ (r : List ℕ). kind_of (reading r)) (rest_part l.from d)) ∙ none),
+    )
+
+pub overflow_add-from : goal.overflow_add-from
+overflow_add-from c =
+    let R : List ℕ =
+    drop c.loop-from.from c.args.datagram.now in
+    let far : c.put_first-from.result ≡ used R =
+    c.put_first-from.ensures.0 ∙ ap used (rest_part c.loop-from.from c.args.datagram.now) in
+    let goes : stop_of (reading R) ≡ 0 =
+    goes_from _ _ c.loop-from-test.true c.loop-from.invariant.none in
+    let on : Onward c.loop-from.from c.args.datagram.now =
+    onward _ _ c.loop-from-test.true goes in
+    omega (arith, far, on.inside)
+
+pub overflow_add-next : goal.overflow_add-next
+overflow_add-next c =
+    let R : List ℕ =
+    drop c.loop-from.from c.args.datagram.now in
+    let goes : stop_of (reading R) ≡ 0 =
+    goes_from _ _ c.loop-from-test.true c.loop-from.invariant.none in
+    let on : Onward c.loop-from.from c.args.datagram.now =
+    onward _ _ c.loop-from-test.true goes in
+    omega (arith, ap length on.pdus, c.loop-from.invariant.numbers)
+
+pub loop-from-smaller : goal.loop-from-smaller
+loop-from-smaller c =
+    let R : List ℕ =
+    drop c.loop-from.from c.args.datagram.now in
+    let far : c.put_first-from.result ≡ used R =
+    c.put_first-from.ensures.0 ∙ ap used (rest_part c.loop-from.from c.args.datagram.now) in
+    let goes : stop_of (reading R) ≡ 0 =
+    goes_from _ _ c.loop-from-test.true c.loop-from.invariant.none in
+    let on : Onward c.loop-from.from c.args.datagram.now =
+    onward _ _ c.loop-from-test.true goes in
+    omega (arith, far, on.inside, on.some)
+
+pub loop-from-preserved : goal.loop-from-preserved
+unfolding stored_all
+loop-from-preserved c =
+    let R : List ℕ =
+    drop c.loop-from.from c.args.datagram.now in
+    let goes : stop_of (reading R) ≡ 0 =
+    goes_from _ _ c.loop-from-test.true c.loop-from.invariant.none in
+    let on : Onward c.loop-from.from c.args.datagram.now =
+    onward _ _ c.loop-from-test.true goes in
+    let far : c.put_first-from.result ≡ used R =
+    c.put_first-from.ensures.0 ∙ ap used (rest_part c.loop-from.from c.args.datagram.now) in
+    let passes : Passes R =
+    passing _ goes in
+    let leaves : c.put_first-from.new.store ≡ stored c.loop-from.next c.loop-from.store (first_pdu R) =
+    let l = c.loop-from in
+    c.put_first-from.ensures.1
+    ∙ ap (stored l.next l.store) (rest_part l.from c.args.datagram.now)
+    ∙ first-stored l.next l.store R passes.taken in
+    let l = c.loop-from in
+    let d : List ℕ = c.args.datagram.now in
+    let o = on in
+    let next : l.from + c.put_first-from.result ≡ l.from + used (drop l.from d) = ap (λ (n : ℕ). l.from + n) far in
+    record {
+      inside = omega (arith, far, o.inside);
+      none = ap (λ (n : ℕ). slice_stop (drop n d)) next ∙ sym o.stop ∙ l.invariant.none;
+      whole = c.put_first-from.auto.store ∙ l.invariant.whole;
+      numbers = omega (arith, l.invariant.numbers, ap length o.pdus, ap (λ (n : ℕ). length (bundle (drop n d))) next);
+      same =
+          ap₂ (λ (s : List ℕ) (n : ℕ). stored_all (l.next + 1) s (bundle (drop n d))) leaves next
+          ∙ ap (stored_all l.next l.store) (sym o.pdus)
+          ∙ l.invariant.same;
+    }
+
+pub returns : goal.returns
+unfolding stored_all
+returns c =
+    let l = c.loop-from in
+    let end = ended l.from c.args.datagram.now c.loop-from-test.false in
+    ap (stored_all l.next l.store) (sym end.1) ∙ l.invariant.same

@@ -1,0 +1,64 @@
+-- `send` meets its contract: refused, it leaves the buffer as it was; else the row's record stands at its start (`row_copied`).
+use Prim.Native.Nat.{ℕ, ◌+◌, ◌-◌}
+use mathlib.Core.List.{List, [], ◌∷◌}
+use mathlib.Core.Path.{◌≡◌, sym, ap, ap₂, ◌∙◌}
+use lib.ListN.{length, take, drop, length-take, length-drop}
+use native.Mathlib.Omega.{arith}
+use borrow.Author.Tests.{eq-eqb}
+use Rattle.wire.specs.First.{first}
+use Rattle.wire.specs.Bytes.{splice}
+use Rattle.trunk.specs.Head.{head_at}
+use Rattle.trunk.specs.Kinds.{record_size}
+use Rattle.trunk.specs.Near.{send_rules, sent, sent_out, row_kind}
+use Rattle.trunk.specs.declared.Sent.TheVariants.{Size}
+use Rattle.trunk.proofs.EndLaws.{SendFits, send-fits, row_copied}
+use Rattle.trunk.proofs.near_end.send.Goals as goal
+
+pub kind_at-requires : goal.kind_at-requires
+kind_at-requires c =
+    let passed : first (send_rules c.args.near c.args.store.now c.args.i (length c.args.out.now)) ≡ 0 =
+    sym c.send_refusal-n.ensures ∙ c.if-n-ne0.false in
+    let fits : SendFits c.args.store.now c.args.i (length c.args.out.now) =
+    send-fits _ _ _ _ passed in
+    omega (arith, c.row_start-start.ensures.1, fits.full)
+
+pub slice_bounds-copy-end : goal.slice_bounds-copy-end
+slice_bounds-copy-end c =
+    let passed : first (send_rules c.args.near c.args.store.now c.args.i (length c.args.out.now)) ≡ 0 =
+    sym c.send_refusal-n.ensures ∙ c.if-n-ne0.false in
+    let fits : SendFits c.args.store.now c.args.i (length c.args.out.now) =
+    send-fits _ _ _ _ passed in
+    omega (arith, c.row_start-start.ensures.1, c.record_size-size.ensures.1, fits.full)
+
+pub copy-requires : goal.copy-requires
+copy-requires c =
+    let size : c.record_size-size.result ≡ record_size (row_kind c.args.store.now c.args.i) =
+    let kind = c.kind_at.ensures ∙ ap (λ (o : ℕ). (head_at o c.args.store.now).kind) c.row_start-start.ensures.0 in
+    c.record_size-size.ensures.0 ∙ ap record_size kind in
+    let passed : first (send_rules c.args.near c.args.store.now c.args.i (length c.args.out.now)) ≡ 0 =
+    sym c.send_refusal-n.ensures ∙ c.if-n-ne0.false in
+    let fits : SendFits c.args.store.now c.args.i (length c.args.out.now) =
+    send-fits _ _ _ _ passed in
+    simp (length-take, length-drop) (omega (arith, size, fits.space))
+
+pub returns : goal.returns
+unfolding sent sent_out
+returns c =
+    let passed : first (send_rules c.args.near c.args.store.now c.args.i (length c.args.out.now)) ≡ 0 =
+    sym c.send_refusal-n.ensures ∙ c.if-n-ne0.false in
+    let size : c.record_size-size.result ≡ record_size (row_kind c.args.store.now c.args.i) =
+    let kind = c.kind_at.ensures ∙ ap (λ (o : ℕ). (head_at o c.args.store.now).kind) c.row_start-start.ensures.0 in
+    c.record_size-size.ensures.0 ∙ ap record_size kind in
+    let fits : SendFits c.args.store.now c.args.i (length c.args.out.now) =
+    send-fits _ _ _ _ passed in
+    let yes = eq-eqb (first (send_rules c.args.near c.args.store.now c.args.i (length c.args.out.now))) 0 passed in
+    let part : ℕ → ℕ → List ℕ = λ a n. take (a + n - a) (drop a c.args.store.now) in
+    record {
+      answer = rw yes (ap (λ (n : ℕ). record { near = c.args.near; answer = Size n }) size);
+      says = rw yes (ap (λ (n : ℕ). 0 ∷ n ∷ []) size);
+      output =
+          rw yes
+          (c.copy.ensures
+          ∙ ap₂ (λ (a n : ℕ). splice 0 (part a n) c.args.out.now) c.row_start-start.ensures.0 size
+          ∙ row_copied c.args.store.now c.args.out.now c.args.i fits.full fits.space);
+    }

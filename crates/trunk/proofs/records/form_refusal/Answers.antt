@@ -1,0 +1,52 @@
+-- `form_refusal` meets its contract: an empty record has no kind to refuse (`empty_kind`) and is refused by 21 (`never_empty`); of any other, at
+-- each return the tests on the way say that its rule is the first broken one, or that none is.
+use mathlib.Core.Path.{◌≡◌, sym, ap, ◌∙◌}
+use mathlib.Core.Bool.{false, not}
+use native.Mathlib.Omega.{arith}
+use borrow.Author.Tests.{eq-eqb, ne_eqb}
+use Rattle.trunk.specs.Kinds.{load, is_unknown, record_size}
+use Rattle.trunk.specs.Record.{kind_in, unknown_kind, wrong_size, form_rules}
+use Rattle.trunk.proofs.EndLaws.{empty_kind, present_kind, never_empty}
+use Rattle.trunk.proofs.records.form_refusal.Goals as goal
+
+pub returns-then-r-eq0 : goal.returns-then-r-eq0
+unfolding form_rules
+returns-then-r-eq0 c =
+    let r = c.args.r.now in
+    rw (empty_kind r c.if-r-eq0.true, never_empty r c.if-r-eq0.true)
+
+pub returns-then-is_unknown : goal.returns-then-is_unknown
+unfolding form_rules
+returns-then-is_unknown c =
+    let tested : c.is_unknown.result ≡ unknown_kind c.args.r.now =
+    c.is_unknown.ensures
+    ∙ ap is_unknown (c.load.ensures ∙ ap load c.kind_at-kind.ensures)
+    ∙ sym (present_kind c.args.r.now (omega arith)) in
+    rw (sym tested ∙ c.if-is_unknown.true)
+
+pub returns-then-r-record_size : goal.returns-then-r-record_size
+unfolding form_rules wrong_size
+returns-then-r-record_size c =
+    let tested : c.is_unknown.result ≡ unknown_kind c.args.r.now =
+    c.is_unknown.ensures
+    ∙ ap is_unknown (c.load.ensures ∙ ap load c.kind_at-kind.ensures)
+    ∙ sym (present_kind c.args.r.now (omega arith)) in
+    let known : unknown_kind c.args.r.now ≡ false =
+    sym tested ∙ c.if-is_unknown.false in
+    let size : c.record_size.result ≡ record_size (kind_in c.args.r.now) =
+    c.record_size.ensures.0 ∙ ap record_size c.kind_at-kind.ensures in
+    let right = record_size (kind_in c.args.r.now) in
+    rw (known, ap not (ne_eqb _ right (λ e. c.if-r-record_size.true (e ∙ sym size))))
+
+pub returns : goal.returns
+unfolding form_rules wrong_size
+returns c =
+    let tested : c.is_unknown.result ≡ unknown_kind c.args.r.now =
+    c.is_unknown.ensures
+    ∙ ap is_unknown (c.load.ensures ∙ ap load c.kind_at-kind.ensures)
+    ∙ sym (present_kind c.args.r.now (omega arith)) in
+    let known : unknown_kind c.args.r.now ≡ false =
+    sym tested ∙ c.if-is_unknown.false in
+    let size : c.record_size.result ≡ record_size (kind_in c.args.r.now) =
+    c.record_size.ensures.0 ∙ ap record_size c.kind_at-kind.ensures in
+    rw (known, ap not (eq-eqb _ _ (c.if-r-record_size.false ∙ size)))
