@@ -1,4 +1,4 @@
-// Words, numbers and hexadecimal bytes in a line of text, and what the programs `replay` and `codec` print.
+// Words, numbers and hexadecimal bytes in a line of text, what the programs print, and what they read from standard input.
 #![tactic(auto)]
 
 pub mod lines;

@@ -1,4 +1,4 @@
-// The lines of standard input, one at a time, through a lent buffer.
+// Standard input: its lines, one at a time, through a lent buffer, or all of it at once.
 ghost use Rattle.std.specs.Prelude.{◌≤◌, length};
 
 use crate::show;
