@@ -32,10 +32,10 @@ fn fresh() -> Ends {
 
 // The sum with what one cycle answered, and a byte of the PDU put out: another in each cycle.
 fn added(sum: u64, size: usize, answer: u8, count: u32, byte: u8) -> u64 {
-    let sum = std::num::wrapping_add_u64(sum, size as u64);
-    let sum = std::num::wrapping_add_u64(sum, answer as u64);
-    let sum = std::num::wrapping_add_u64(sum, count as u64);
-    std::num::wrapping_add_u64(sum, byte as u64)
+    let sum = sum.wrapping_add(size as u64);
+    let sum = sum.wrapping_add(answer as u64);
+    let sum = sum.wrapping_add(count as u64);
+    sum.wrapping_add(byte as u64)
 }
 
 // The near end after an offer and a send, and the size of the record sent; 0 where one of them refuses.
@@ -133,9 +133,7 @@ fn cycles(
     reply: &mut [u8; REPLY],
 ) -> Ends {
     let mut ends = start;
-    let mut left = times;
-    while left > 0 {
-        left -= 1;
+    for _ in 0..times {
         ends = cycle(ends, datagram, store, record, out, reply);
     }
     ends
@@ -182,7 +180,7 @@ fn cycles_of(first: &[u8], second: &[u8], times: u64) -> Ends {
 }
 
 // `cycle KIND TIMES`: one cycle of a Transmitter, so that the far station knows the unit, then as many as are asked for.
-pub fn run(kind: u64, times: u64) -> bool {
+pub fn run(rt: &HostRuntime, kind: u64, times: u64) -> bool {
     let mut first = [0u8; ROOM];
     let mut second = [0u8; ROOM];
     let m = datagrams::put_transmitter(UNIT, &mut first);
@@ -191,18 +189,18 @@ pub fn run(kind: u64, times: u64) -> bool {
         return false;
     }
     let ends = cycles_of(lines::first(&first, m), lines::first(&second, n), times);
-    show(kind, times, ends);
+    show(rt, kind, times, ends);
     true
 }
 
 // `cycle KIND TIMES ACCEPTED ACKNOWLEDGED DELIVERED SUM`
-fn show(kind: u64, times: u64, ends: Ends) {
+fn show(rt: &HostRuntime, kind: u64, times: u64, ends: Ends) {
     let near = ends.near;
     let far = ends.far;
-    lines::show_job(b"cycle", kind, times);
-    lines::show_field(near_end::accepted(near) as u64);
-    lines::show_field(near_end::acknowledged(near) as u64);
-    lines::show_field(far_end::count(far) as u64);
-    lines::show_field(ends.sum);
-    lines::end_line();
+    lines::show_job(rt, b"cycle", kind, times);
+    lines::show_field(rt, near_end::accepted(near) as u64);
+    lines::show_field(rt, near_end::acknowledged(near) as u64);
+    lines::show_field(rt, far_end::count(far) as u64);
+    lines::show_field(rt, ends.sum);
+    lines::end_line(rt);
 }

@@ -1,8 +1,6 @@
 // The lines that are read and printed.
 ghost use Rattle.std.specs.Prelude.{◌≤◌};
 
-use libc::{STDERR_FILENO, STDOUT_FILENO};
-
 // A line's first word.
 #[derive(Clone, Copy)]
 pub enum Task {
@@ -41,10 +39,10 @@ pub fn first(bytes: &[u8], n: usize) -> &[u8] {
 // The task that a text starts with.
 fn task_of(text: &[u8]) -> Task {
     let word = first(text, WORD_LENGTH);
-    if check::same(word, b"cycle") {
+    if word == b"cycle".as_slice() {
         return Task::Cycle;
     }
-    if check::same(word, b"heard") {
+    if word == b"heard".as_slice() {
         return Task::Heard;
     }
     Task::Unknown
@@ -120,33 +118,32 @@ pub fn read(text: &[u8]) -> Line {
     }
 }
 
-fn show(text: &[u8]) {
-    io::write_all(STDOUT_FILENO, text);
+fn show(rt: &HostRuntime, text: &[u8]) {
+    let _ = rt.write_all(text);
 }
 
 // ` N`
-pub fn show_field(n: u64) {
-    show(b" ");
-    io::print_decimal(STDOUT_FILENO, n);
+pub fn show_field(rt: &HostRuntime, n: u64) {
+    let _ = print!(rt; " {n}");
 }
 
 // A line's start, as it was read.
-pub fn show_job(word: &[u8], size: u64, times: u64) {
-    show(word);
-    show_field(size);
-    show_field(times);
+pub fn show_job(rt: &HostRuntime, word: &[u8], size: u64, times: u64) {
+    show(rt, word);
+    show_field(rt, size);
+    show_field(rt, times);
 }
 
 // A write that fails is told on standard error.
-pub fn end_line() {
-    if !io::write_all(STDOUT_FILENO, b"\n") {
-        io::write_all(STDERR_FILENO, b"standard output: a write failed\n");
+pub fn end_line(rt: &HostRuntime) {
+    if rt.write_all(b"\n").is_err() {
+        let _ = eprintln!(rt; "standard output: a write failed");
     }
 }
 
 // `bad line N`
-pub fn show_bad(number: u64) {
-    show(b"bad line");
-    show_field(number);
-    end_line();
+pub fn show_bad(rt: &HostRuntime, number: u64) {
+    show(rt, b"bad line");
+    show_field(rt, number);
+    end_line(rt);
 }

@@ -8,38 +8,38 @@ mod datagrams;
 mod lines;
 mod stations;
 
-use libc::STDIN_FILENO;
 use lines::{Line, Task};
+use text::lines::INPUT;
 
 // Runs the job of a line, and answers whether it can be run.
-fn run_job(line: Line) -> bool {
+fn run_job(rt: &HostRuntime, line: Line) -> bool {
     let task = line.task;
     match task {
-        Task::Cycle => cycles::run(line.size, line.times),
-        Task::Heard => stations::run(line.size, line.times),
+        Task::Cycle => cycles::run(rt, line.size, line.times),
+        Task::Heard => stations::run(rt, line.size, line.times),
         Task::Unknown => false,
     }
 }
 
 // Runs the line that a text starts with: its length, or 0 where it cannot be run.
-fn run_line(text: &[u8]) -> usize {
+fn run_line(rt: &HostRuntime, text: &[u8]) -> usize {
     let line = lines::read(text);
     let length = line.length;
     if length == 0 {
         return 0;
     }
-    if run_job(line) { length } else { 0 }
+    if run_job(rt, line) { length } else { 0 }
 }
 
 // Runs every line, up to the first that cannot be run.
-fn run_all(input: &[u8]) {
+fn run_all(rt: &HostRuntime, input: &[u8]) {
     let mut number = 0;
     let mut at = 0;
     while at < input.len() {
         number += 1;
-        let length = run_line(&input[at..]);
+        let length = run_line(rt, &input[at..]);
         if length == 0 {
-            return lines::show_bad(number);
+            return lines::show_bad(rt, number);
         }
         if input.len() - at < length {
             return;
@@ -49,8 +49,8 @@ fn run_all(input: &[u8]) {
 }
 
 // Behind 65,536 bytes the input is not read.
-fn main() {
-    let mut input = io::large_buffer();
-    let n = io::read_full(STDIN_FILENO, &mut input);
-    run_all(lines::first(&input, n));
+fn main(rt: HostRuntime) {
+    let mut input = [0u8; INPUT];
+    let n = text::lines::read_full(&rt, &mut input);
+    run_all(&rt, lines::first(&input, n));
 }

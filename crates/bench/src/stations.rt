@@ -23,10 +23,8 @@ fn joined(station: Station, unit: u16) -> Station {
 fn with_units(units: u16) -> Station {
     let made = station::new(0, 0, 1);
     let mut station = made.station;
-    let mut unit = 0;
-    while unit < units {
-        unit += 1;
-        station = joined(station, unit);
+    for unit in 0..units {
+        station = joined(station, unit + 1);
     }
     station
 }
@@ -34,19 +32,17 @@ fn with_units(units: u16) -> Station {
 // Hears a datagram so many times.
 fn hear(start: Station, datagram: &[u8], times: u64) -> Tally {
     let mut station = start;
-    let mut sum = 0;
-    let mut i = 0;
-    while i < times {
+    let mut sum: u64 = 0;
+    for _ in 0..times {
         let heard = station::hear(station, datagram);
         station = heard.station;
-        sum = std::num::wrapping_add_u64(sum, heard.answer as u64);
-        i += 1;
+        sum = sum.wrapping_add(heard.answer as u64);
     }
     Tally { station, sum }
 }
 
 // `heard UNITS TIMES`: the sender is the unit heard last, so that it stands in the last place; with no units it is unknown.
-pub fn run(units: u64, times: u64) -> bool {
+pub fn run(rt: &HostRuntime, units: u64, times: u64) -> bool {
     if MOST_UNITS < units {
         return false;
     }
@@ -54,6 +50,7 @@ pub fn run(units: u64, times: u64) -> bool {
     let mut datagram = [0u8; pdu::TRANSMITTER_SIZE];
     let n = datagrams::put_ppli(unit, 1, &mut datagram);
     show(
+        rt,
         units,
         times,
         hear(with_units(unit), lines::first(&datagram, n), times),
@@ -62,10 +59,10 @@ pub fn run(units: u64, times: u64) -> bool {
 }
 
 // `heard UNITS TIMES HELD SUM`
-fn show(units: u64, times: u64, tally: Tally) {
+fn show(rt: &HostRuntime, units: u64, times: u64, tally: Tally) {
     let station = tally.station;
-    lines::show_job(b"heard", units, times);
-    lines::show_field(station::units_held(station) as u64);
-    lines::show_field(tally.sum);
-    lines::end_line();
+    lines::show_job(rt, b"heard", units, times);
+    lines::show_field(rt, station::units_held(station) as u64);
+    lines::show_field(rt, tally.sum);
+    lines::end_line(rt);
 }

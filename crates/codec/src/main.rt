@@ -11,23 +11,27 @@ use text::lines::{Held, INPUT, Next};
 use text::{ROOM, lines, show};
 
 // Makes a call, and answers whether the line could be read.
-fn run(call: Call, given: &[u8; ROOM]) -> bool {
+fn run(rt: &HostRuntime, call: Call, given: &[u8; ROOM]) -> bool {
     match call {
-        Call::Read(n) => calls::read(text::first(given, n)),
-        Call::Archive(n) => calls::archive(text::first(given, n)),
-        Call::WriteTransmitter { transmitter, room } => calls::write_transmitter(transmitter, room),
+        Call::Read(n) => calls::read(rt, text::first(given, n)),
+        Call::Archive(n) => calls::archive(rt, text::first(given, n)),
+        Call::WriteTransmitter { transmitter, room } => calls::write_transmitter(
+            rt,
+            transmitter,
+            room,
+        ),
         Call::WriteSignal { signal, size, room } => {
-            calls::write_signal(signal, text::first(given, size), room)
+            calls::write_signal(rt, signal, text::first(given, size), room)
         }
         Call::Bad => return false,
     }
     true
 }
 
-fn run_line(line: &[u8]) -> bool {
+fn run_line(rt: &HostRuntime, line: &[u8]) -> bool {
     let mut given = [0u8; ROOM];
     let call = script::read(line, &mut given);
-    run(call, &given)
+    run(rt, call, &given)
 }
 
 // Where a line leaves the run: with these bytes held, or at its end.
@@ -38,15 +42,15 @@ enum After {
 }
 
 // Runs the next line, which so many came before. One that cannot be read ends the run.
-fn run_next(input: &mut [u8; INPUT], held: Held, before: u64) -> After {
-    match lines::next_line(input, held) {
+fn run_next(rt: &HostRuntime, input: &mut [u8; INPUT], held: Held, before: u64) -> After {
+    match lines::next_line(rt, input, held) {
         Next::Line { start, end, rest } => {
-            if run_line(text::part(input, start, end)) {
+            if run_line(rt, text::part(input, start, end)) {
                 return After::Held(rest);
             }
-            show::bad_line(before);
+            show::bad_line(rt, before);
         }
-        Next::TooLong => show::bad_line(before),
+        Next::TooLong => show::bad_line(rt, before),
         Next::End => {}
         Next::Failed => {}
     }
@@ -54,19 +58,17 @@ fn run_next(input: &mut [u8; INPUT], held: Held, before: u64) -> After {
 }
 
 // Runs every line. A proved loop has to end: it counts the lines, up to more than any input has.
-fn run_all(input: &mut [u8; INPUT]) {
+fn run_all(rt: &HostRuntime, input: &mut [u8; INPUT]) {
     let mut held = lines::none();
-    let mut before: u64 = 0;
-    while before < u64::MAX {
-        match run_next(input, held, before) {
+    for before in 0..u64::MAX {
+        match run_next(rt, input, held, before) {
             After::Held(rest) => held = rest,
             After::End => return,
         }
-        before += 1;
     }
 }
 
-fn main() {
-    let mut input = io::large_buffer();
-    run_all(&mut input);
+fn main(rt: HostRuntime) {
+    let mut input = [0u8; INPUT];
+    run_all(&rt, &mut input);
 }

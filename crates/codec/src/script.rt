@@ -71,10 +71,10 @@ fn read_signal(line: &[u8], given: &mut [u8; ROOM]) -> Call {
 fn read_record(line: &[u8], given: &mut [u8; ROOM]) -> Call {
     let form = text::first_word(line);
     let fields = text::other_words(line);
-    if check::same(form, b"transmitter") {
+    if form == b"transmitter".as_slice() {
         return read_transmitter(fields);
     }
-    if check::same(form, b"signal") {
+    if form == b"signal".as_slice() {
         return read_signal(fields, given);
     }
     Call::Bad
@@ -84,13 +84,13 @@ fn read_record(line: &[u8], given: &mut [u8; ROOM]) -> Call {
 pub fn read(line: &[u8], given: &mut [u8; ROOM]) -> Call {
     let word = text::first_word(line);
     let words = text::other_words(line);
-    if check::same(word, b"read") {
+    if word == b"read".as_slice() {
         return read_datagram(true, words, given);
     }
-    if check::same(word, b"archive") {
+    if word == b"archive".as_slice() {
         return read_datagram(false, words, given);
     }
-    if check::same(word, b"write") {
+    if word == b"write".as_slice() {
         return read_record(words, given);
     }
     Call::Bad

@@ -2,130 +2,94 @@
 // One record is held at a time, so the input may be of any length. A failed read or write is told on standard error, and ends the listing.
 #![tactic(auto)]
 
-use libc::{STDIN_FILENO, STDOUT_FILENO};
+use std::io;
+use std::io::Read;
+use text::show;
 use trunk::{Checked, Load, kinds, records};
 
-// What one read brought.
-#[derive(Clone, Copy)]
-enum Came {
-    Bytes(usize),
-    Failed,
-}
-
-// One read into the part of `buf` from `at` up to `end`.
-fn read_part(buf: &mut [u8], at: usize, end: usize) -> Came {
+// One read into the part of `buf` from `at` up to `end`: how many bytes it brought.
+fn read_part(rt: &HostRuntime, buf: &mut [u8], at: usize, end: usize) -> io::Result<usize> {
     if at <= end {
         if end <= buf.len() {
-            let part = &mut buf[at..end];
-            let got = libc::read(STDIN_FILENO, part);
-            if got < 0 {
-                return Came::Failed;
-            }
-            return Came::Bytes(io::count(got, part));
+            return rt.stdin().read(&mut buf[at..end]);
         }
     }
-    Came::Bytes(0)
+    Ok(0)
 }
 
-// Reads a record's bytes behind its first, up to `end`: how many there are with the first, or 0 after a failed read.
-fn read_rest(buf: &mut [u8], end: usize) -> usize {
+// Reads a record's bytes behind its first, up to `end`: how many there are with the first.
+fn read_rest(rt: &HostRuntime, buf: &mut [u8], end: usize) -> io::Result<usize> {
     let mut next = 1;
     while next < end {
-        match read_part(buf, next, end) {
-            Came::Failed => return 0,
-            Came::Bytes(n) => {
-                if n == 0 {
-                    return next;
-                }
-                if end - next < n {
-                    return end;
-                }
-                next += n;
-            }
+        let n = read_part(rt, buf, next, end)?;
+        if n == 0 {
+            return Ok(next);
         }
+        if end - next < n {
+            return Ok(end);
+        }
+        next += n;
     }
-    next
+    Ok(next)
 }
 
-fn failed() -> bool {
-    os::fail(b"standard input");
-    false
-}
-
-// Writes bytes, where all that stands before them was written.
-fn put(so_far: bool, bytes: &[u8]) -> bool {
-    if so_far {
-        return io::write_all(STDOUT_FILENO, bytes);
-    }
-    false
-}
-
-// Writes a number, where all that stands before it was written.
-fn put_number(so_far: bool, n: u64) -> bool {
-    if so_far {
-        return io::print_decimal(STDOUT_FILENO, n);
-    }
+fn failed(rt: &HostRuntime, error: io::Error) -> bool {
+    show::failed(rt, "standard input", error);
     false
 }
 
 // Whether all was written; a failed write is told on standard error.
-fn told(written: bool) -> bool {
-    if written {
-        return true;
+fn told(rt: &HostRuntime, written: io::Result<()>) -> bool {
+    if let Err(error) = written {
+        show::failed(rt, "standard output", error);
+        return false;
     }
-    os::fail(b"standard output");
-    false
+    true
 }
 
-// Prints the line of a record that was taken, and answers whether all of it was written.
-fn print_taken(index: u64, word: &[u8], number: u32, size: u16) -> bool {
-    let place = put_number(true, index);
-    let kind = put(place, word);
-    let numbered = put_number(kind, number as u64);
-    let apart = put(numbered, b" ");
-    let sized = put_number(apart, size as u64);
-    put(sized, b"\n")
+// Prints the line of a record that was taken.
+fn print_taken(rt: &HostRuntime, index: u64, word: &str, number: u32, size: u16) -> io::Result<()> {
+    println!(rt; "{index} {word} {number} {size}")
 }
 
-// Prints the line of a record that was refused, and answers whether all of it was written.
-fn print_refused(index: u64, n: u8) -> bool {
-    let place = put_number(true, index);
-    let refused = put(place, b" refused ");
-    let numbered = put_number(refused, n as u64);
-    put(numbered, b"\n")
+// Prints the line of a record that was refused.
+fn print_refused(rt: &HostRuntime, index: u64, n: u8) -> io::Result<()> {
+    println!(rt; "{index} refused {n}")
 }
 
 // Prints the line of a record with this load. The check has refused a record of an unknown kind before.
-fn print_load(index: u64, load: Load, number: u32, size: u16) -> bool {
+fn print_load(rt: &HostRuntime, index: u64, load: Load, number: u32, size: u16) -> io::Result<()> {
     match load {
-        Load::Words(_) => print_taken(index, b" signal ", number, size),
-        Load::Interrogation => print_taken(index, b" signal ", number, size),
-        Load::TimingReply => print_taken(index, b" signal ", number, size),
-        Load::Transmitter => print_taken(index, b" transmitter ", number, size),
-        Load::Nothing => print_taken(index, b" ack ", number, size),
-        Load::Unknown => true,
+        Load::Words(_) => print_taken(rt, index, "signal", number, size),
+        Load::Interrogation => print_taken(rt, index, "signal", number, size),
+        Load::TimingReply => print_taken(rt, index, "signal", number, size),
+        Load::Transmitter => print_taken(rt, index, "transmitter", number, size),
+        Load::Nothing => print_taken(rt, index, "ack", number, size),
+        Load::Unknown => Ok(()),
     }
 }
 
 // Prints a record's line, and answers whether the next record is to be read.
-fn print_checked(index: u64, answer: Checked) -> bool {
+fn print_checked(rt: &HostRuntime, index: u64, answer: Checked) -> bool {
     match answer {
         Checked::Refused(n) => {
-            told(print_refused(index, n));
+            told(rt, print_refused(rt, index, n));
             false
         }
-        Checked::Reply { number, size } => told(print_load(index, Load::Nothing, number, size)),
+        Checked::Reply { number, size } => {
+            told(rt, print_load(rt, index, Load::Nothing, number, size))
+        }
         Checked::Pdu { kind, number, size } => {
-            told(print_load(index, kinds::load(kind), number, size))
+            told(rt, print_load(rt, index, kinds::load(kind), number, size))
         }
     }
 }
 
 // Reads and lists one record, and answers whether to go on.
-fn list_one(buf: &mut [u8], index: u64) -> bool {
-    match read_part(buf, 0, 1) {
-        Came::Failed => return failed(),
-        Came::Bytes(n) => {
+fn list_one(rt: &HostRuntime, buf: &mut [u8], index: u64) -> bool {
+    match read_part(rt, buf, 0, 1) {
+        Err(error) => return failed(rt, error),
+        Ok(n) => {
             if n == 0 {
                 return false;
             }
@@ -136,31 +100,30 @@ fn list_one(buf: &mut [u8], index: u64) -> bool {
     }
     let kind = buf[0];
     let end = kinds::record_size(kind);
-    let size = read_rest(buf, end);
-    if size == 0 {
-        return failed();
+    match read_rest(rt, buf, end) {
+        Err(error) => failed(rt, error),
+        Ok(size) => {
+            if buf.len() < size {
+                return false;
+            }
+            print_checked(rt, index, records::check(&buf[..size]))
+        }
     }
-    if buf.len() < size {
-        return false;
-    }
-    print_checked(index, records::check(&buf[..size]))
 }
 
 // A proved loop has to end: it counts the records, up to more than any input has.
-fn list_all(buf: &mut [u8]) {
-    let mut index: u64 = 0;
-    while index < u64::MAX {
-        if !list_one(buf, index) {
+fn list_all(rt: &HostRuntime, buf: &mut [u8]) {
+    for index in 0..u64::MAX {
+        if !list_one(rt, buf, index) {
             return;
         }
-        index += 1;
     }
 }
 
-fn main() {
-    let headed = put(true, b"record kind number bytes\n");
-    if told(headed) {
+fn main(rt: HostRuntime) {
+    let headed = println!(rt; "record kind number bytes");
+    if told(&rt, headed) {
         let mut buf = [0u8; kinds::LONGEST_RECORD];
-        list_all(&mut buf);
+        list_all(&rt, &mut buf);
     }
 }

@@ -42,13 +42,13 @@ pub fn start() -> State {
 }
 
 // The far end that a maker gave, its answer shown.
-fn show_made(made: MadeFar) -> Far {
-    show::line(b"station", made.answer as u64);
+fn show_made(rt: &HostRuntime, made: MadeFar) -> Far {
+    show::line(rt, b"station", made.answer as u64);
     made.far
 }
 
-fn make_store(side: Side, size: usize) -> Side {
-    show::line(b"store", size as u64);
+fn make_store(rt: &HostRuntime, side: Side, size: usize) -> Side {
+    show::line(rt, b"store", size as u64);
     let mut after = side;
     after.size = size;
     after
@@ -63,8 +63,8 @@ fn put(store: &mut [u8; ROOM], at: usize, bytes: &[u8]) {
     }
 }
 
-fn poke(side: Side, offset: usize, bytes: &[u8]) -> Side {
-    show::line(b"poke", offset as u64);
+fn poke(rt: &HostRuntime, side: Side, offset: usize, bytes: &[u8]) -> Side {
+    show::line(rt, b"poke", offset as u64);
     let near = side.near;
     let mut store = side.store;
     let size = side.size;
@@ -72,45 +72,45 @@ fn poke(side: Side, offset: usize, bytes: &[u8]) -> Side {
     Side { near, store, size }
 }
 
-fn offer(side: Side, datagram: &[u8]) -> Side {
+fn offer(rt: &HostRuntime, side: Side, datagram: &[u8]) -> Side {
     let near = side.near;
     let mut store = side.store;
     let size = side.size;
     let offered = near_end::offer(near, text::first_mut(&mut store, size), datagram);
     let answer = offered.answer;
-    answers::offered(answer);
+    answers::offered(rt, answer);
     let near = offered.near;
     Side { near, store, size }
 }
 
-fn send(near: Near, store: &[u8], number: u32, room: usize) -> Near {
+fn send(rt: &HostRuntime, near: Near, store: &[u8], number: u32, room: usize) -> Near {
     let mut out = [0u8; ROOM];
     let sending = near_end::send(near, store, number, text::first_mut(&mut out, room));
     let answer = sending.answer;
-    answers::sent(answer, &out);
+    answers::sent(rt, answer, &out);
     sending.near
 }
 
-fn send_from(side: Side, number: u32, room: usize) -> Side {
+fn send_from(rt: &HostRuntime, side: Side, number: u32, room: usize) -> Side {
     let near = side.near;
     let store = side.store;
     let size = side.size;
-    let near = send(near, text::first(&store, size), number, room);
+    let near = send(rt, near, text::first(&store, size), number, room);
     Side { near, store, size }
 }
 
-fn to_near(side: Side, received: &[u8]) -> Side {
+fn to_near(rt: &HostRuntime, side: Side, received: &[u8]) -> Side {
     let near = side.near;
     let replied = near_end::take_reply(near, received);
     let answer = replied.answer;
-    answers::replied(answer);
+    answers::replied(rt, answer);
     let near = replied.near;
     let mut after = side;
     after.near = near;
     after
 }
 
-fn to_far(far: Far, received: &[u8], room: usize, reply_room: usize) -> Far {
+fn to_far(rt: &HostRuntime, far: Far, received: &[u8], room: usize, reply_room: usize) -> Far {
     let mut out = [0u8; ROOM];
     let mut reply = [0u8; ROOM];
     let arrived = far_end::arrive(
@@ -120,48 +120,48 @@ fn to_far(far: Far, received: &[u8], room: usize, reply_room: usize) -> Far {
         text::first_mut(&mut out, room),
     );
     let answer = arrived.answer;
-    answers::arrived(answer, &out, &reply);
+    answers::arrived(rt, answer, &out, &reply);
     arrived.far
 }
 
-fn clock(far: Far, t: u64) -> Far {
+fn clock(rt: &HostRuntime, far: Far, t: u64) -> Far {
     let ticked = far_end::tick(far, t);
-    show::line(b"clock", ticked.answer as u64);
+    show::line(rt, b"clock", ticked.answer as u64);
     ticked.far
 }
 
 // The near end and its store after a call.
-fn run_near(side: Side, call: Call, given: &[u8; ROOM]) -> Side {
+fn run_near(rt: &HostRuntime, side: Side, call: Call, given: &[u8; ROOM]) -> Side {
     match call {
-        Call::Store(size) => make_store(side, size),
-        Call::Poke { offset, size } => poke(side, offset, text::first(given, size)),
-        Call::Offer(n) => offer(side, text::first(given, n)),
-        Call::Send { number, room } => send_from(side, number, room),
-        Call::Near(n) => to_near(side, text::first(given, n)),
+        Call::Store(size) => make_store(rt, side, size),
+        Call::Poke { offset, size } => poke(rt, side, offset, text::first(given, size)),
+        Call::Offer(n) => offer(rt, side, text::first(given, n)),
+        Call::Send { number, room } => send_from(rt, side, number, room),
+        Call::Near(n) => to_near(rt, side, text::first(given, n)),
         _ => side,
     }
 }
 
 // The far end after a call.
-fn run_far(far: Far, call: Call, given: &[u8; ROOM]) -> Far {
+fn run_far(rt: &HostRuntime, far: Far, call: Call, given: &[u8; ROOM]) -> Far {
     match call {
         Call::Station {
             level,
             net,
             exchanges,
-        } => show_made(far_end::new(level, net, exchanges)),
+        } => show_made(rt, far_end::new(level, net, exchanges)),
         Call::Limited {
             level,
             net,
             exchanges,
             limit,
-        } => show_made(far_end::with_limit(level, net, exchanges, limit)),
+        } => show_made(rt, far_end::with_limit(level, net, exchanges, limit)),
         Call::Far {
             size,
             room,
             reply_room,
-        } => to_far(far, text::first(given, size), room, reply_room),
-        Call::Clock(t) => clock(far, t),
+        } => to_far(rt, far, text::first(given, size), room, reply_room),
+        Call::Clock(t) => clock(rt, far, t),
         _ => far,
     }
 }
@@ -172,13 +172,13 @@ fn counted(lines: u64) -> u64 {
 }
 
 // Makes a call that may stand here. A line that cannot be read changes nothing.
-fn run(state: State, call: Call, given: &[u8; ROOM]) -> State {
+fn run(rt: &HostRuntime, state: State, call: Call, given: &[u8; ROOM]) -> State {
     let side = state.side;
     let far = state.far;
     if script::in_place(call, state.lines, side.size) {
         return State {
-            side: run_near(side, call, given),
-            far: run_far(far, call, given),
+            side: run_near(rt, side, call, given),
+            far: run_far(rt, far, call, given),
             lines: counted(state.lines),
             good: true,
         };
@@ -192,8 +192,8 @@ fn run(state: State, call: Call, given: &[u8; ROOM]) -> State {
 }
 
 // Runs one line. Buffers are lent as zeros.
-pub fn run_line(state: State, line: &[u8]) -> State {
+pub fn run_line(rt: &HostRuntime, state: State, line: &[u8]) -> State {
     let mut given = [0u8; ROOM];
     let call = script::read(line, &mut given);
-    run(state, call, &given)
+    run(rt, state, call, &given)
 }

@@ -27,13 +27,13 @@ fn stop(state: State) -> Run {
 }
 
 // A line that cannot be read ends the run.
-fn bad_line(state: State) -> Run {
-    show::bad_line(state.lines);
+fn bad_line(rt: &HostRuntime, state: State) -> Run {
+    show::bad_line(rt, state.lines);
     stop(state)
 }
 
 // After a line.
-fn go_on(state: State, held: Held) -> Run {
+fn go_on(rt: &HostRuntime, state: State, held: Held) -> Run {
     if state.good {
         return Run {
             state,
@@ -41,46 +41,48 @@ fn go_on(state: State, held: Held) -> Run {
             go: true,
         };
     }
-    bad_line(state)
+    bad_line(rt, state)
 }
 
 // The end of the input.
-fn end(state: State) -> Run {
-    units::show_end(state);
+fn end(rt: &HostRuntime, state: State) -> Run {
+    units::show_end(rt, state);
     stop(state)
 }
 
 // Runs the next line.
-fn run_next(run: Run, input: &mut [u8; INPUT]) -> Run {
+fn run_next(rt: &HostRuntime, run: Run, input: &mut [u8; INPUT]) -> Run {
     let state = run.state;
-    match lines::next_line(input, run.held) {
+    match lines::next_line(rt, input, run.held) {
         Next::Line { start, end, rest } => {
-            go_on(calls::run_line(state, text::part(input, start, end)), rest)
+            go_on(
+                rt,
+                calls::run_line(rt, state, text::part(input, start, end)),
+                rest,
+            )
         }
-        Next::TooLong => bad_line(state),
-        Next::End => end(state),
+        Next::TooLong => bad_line(rt, state),
+        Next::End => end(rt, state),
         Next::Failed => stop(state),
     }
 }
 
-// Runs the whole input. A proved loop has to end: it counts its turns down from more than any input takes.
-fn run_all(input: &mut [u8; INPUT]) {
+// Runs the whole input. A proved loop has to end: it counts its turns, up to more than any input takes.
+fn run_all(rt: &HostRuntime, input: &mut [u8; INPUT]) {
     let mut now = Run {
         state: calls::start(),
         held: lines::none(),
         go: true,
     };
-    let mut turns = u64::MAX;
-    while turns > 0 {
-        turns -= 1;
-        now = run_next(now, input);
+    for _ in 0..u64::MAX {
+        now = run_next(rt, now, input);
         if !now.go {
             return;
         }
     }
 }
 
-fn main() {
-    let mut input = io::large_buffer();
-    run_all(&mut input);
+fn main(rt: HostRuntime) {
+    let mut input = [0u8; INPUT];
+    run_all(&rt, &mut input);
 }

@@ -186,16 +186,16 @@ fn read_far(words: &[u8], given: &mut [u8; ROOM]) -> Call {
 
 // The lines of numbers alone.
 fn read_numbers(word: &[u8], words: &[u8]) -> Call {
-    if check::same(word, b"station") {
+    if word == b"station".as_slice() {
         return read_station(words);
     }
-    if check::same(word, b"store") {
+    if word == b"store".as_slice() {
         return read_store(words);
     }
-    if check::same(word, b"send") {
+    if word == b"send".as_slice() {
         return read_send(words);
     }
-    if check::same(word, b"clock") {
+    if word == b"clock".as_slice() {
         return read_clock(words);
     }
     Call::Bad
@@ -205,16 +205,16 @@ fn read_numbers(word: &[u8], words: &[u8]) -> Call {
 pub fn read(line: &[u8], given: &mut [u8; ROOM]) -> Call {
     let word = text::first_word(line);
     let words = text::other_words(line);
-    if check::same(word, b"offer") {
+    if word == b"offer".as_slice() {
         return read_offer(words, given);
     }
-    if check::same(word, b"near") {
+    if word == b"near".as_slice() {
         return read_near(words, given);
     }
-    if check::same(word, b"far") {
+    if word == b"far".as_slice() {
         return read_far(words, given);
     }
-    if check::same(word, b"poke") {
+    if word == b"poke".as_slice() {
         return read_poke(words, given);
     }
     read_numbers(word, words)

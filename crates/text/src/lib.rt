@@ -1,4 +1,4 @@
-// Words, numbers and hexadecimal bytes in a line of text, and what the programs `replay` and `codec` print.
+// Words, numbers and hexadecimal bytes in a line of text, what the programs print, and what they read from standard input.
 #![tactic(auto)]
 
 pub mod lines;
@@ -132,10 +132,8 @@ pub fn decimal(text: &[u8], most: u64) -> Number
         value: 0,
         good: 0 < text.len(),
     };
-    let mut i = 0;
-    while i < text.len() {
-        n = grown(n, text[i], most);
-        i += 1;
+    for c in text {
+        n = grown(n, *c, most);
     }
     n
 }
@@ -171,10 +169,8 @@ fn put_byte(text: &[u8], i: usize, out: &mut [u8; ROOM]) -> bool {
 // Puts `n` bytes at the start of `out`; false where the text is not all digits.
 fn put_bytes(text: &[u8], n: usize, out: &mut [u8; ROOM]) -> bool {
     let mut good = true;
-    let mut i = 0;
-    while i < n {
+    for i in 0..n {
         good = wire::both(good, put_byte(text, i, out));
-        i += 1;
     }
     good
 }

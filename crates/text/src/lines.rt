@@ -1,5 +1,8 @@
-// The lines of standard input, one at a time, through a lent buffer.
-use libc::STDIN_FILENO;
+// Standard input: its lines, one at a time, through a lent buffer, or all of it at once.
+ghost use Rattle.std.specs.Prelude.{◌≤◌, length};
+
+use crate::show;
+use std::io::Read;
 
 // A line of this length or more cannot be read.
 pub const INPUT: usize = 65536;
@@ -38,21 +41,41 @@ pub fn none() -> Held {
 }
 
 // One read into the start of a part. A failure is told on standard error.
-fn read_into(part: &mut [u8]) -> Came {
-    let got = libc::read(STDIN_FILENO, part);
-    if got < 0 {
-        os::fail(b"standard input");
-    }
-    Came {
-        bytes: io::count(got, part),
-        failed: got < 0,
+fn read_into(rt: &HostRuntime, part: &mut [u8]) -> Came {
+    match rt.stdin().read(part) {
+        Ok(bytes) => Came {
+            bytes,
+            failed: false,
+        },
+        Err(error) => {
+            show::failed(rt, "standard input", error);
+            Came {
+                bytes: 0,
+                failed: true,
+            }
+        }
     }
 }
 
+// Reads until `buf` is full, the input ends or a read fails: how many bytes are at the start of `buf`. Nothing is told of a failure.
+pub fn read_full(rt: &HostRuntime, buf: &mut [u8]) -> usize
+    ensures { result ≤ length buf.new }
+{
+    let mut done = 0;
+    while done < buf.len() {
+        match rt.stdin().read(&mut buf[done..]) {
+            Ok(0) => break,
+            Ok(n) => done += n,
+            Err(_) => break,
+        }
+    }
+    done
+}
+
 // One read behind the first `have` bytes; none where there is no room.
-fn read_behind(input: &mut [u8], have: usize) -> Came {
+fn read_behind(rt: &HostRuntime, input: &mut [u8], have: usize) -> Came {
     if have < input.len() {
-        return read_into(&mut input[have..]);
+        return read_into(rt, &mut input[have..]);
     }
     Came {
         bytes: 0,
@@ -75,10 +98,8 @@ fn keep(input: &mut [u8; INPUT], held: Held) -> usize {
         return 0;
     }
     let n = held.end - held.start;
-    let mut i = 0;
-    while i < n {
+    for i in 0..n {
         move_down(input, held.start, i);
-        i += 1;
     }
     n
 }
@@ -113,12 +134,12 @@ enum Turn {
 }
 
 // One read behind the bytes held, which are moved to the buffer's start first.
-fn read_more(input: &mut [u8; INPUT], held: Held) -> Turn {
+fn read_more(rt: &HostRuntime, input: &mut [u8; INPUT], held: Held) -> Turn {
     let have = keep(input, held);
     if INPUT <= have {
         return Turn::Done(Next::TooLong);
     }
-    let came = read_behind(input, have);
+    let came = read_behind(rt, input, have);
     if came.failed {
         return Turn::Done(Next::Failed);
     }
@@ -132,12 +153,12 @@ fn read_more(input: &mut [u8; INPUT], held: Held) -> Turn {
 }
 
 // The first whole line among the bytes held; where there is none, more is read.
-fn look(input: &mut [u8; INPUT], held: Held) -> Turn {
+fn look(rt: &HostRuntime, input: &mut [u8; INPUT], held: Held) -> Turn {
     let start = held.start;
     let have = held.end;
     let end = crate::find(crate::first(input, have), start, b'\n');
     if have <= end {
-        return read_more(input, held);
+        return read_more(rt, input, held);
     }
     Turn::Done(Next::Line {
         start,
@@ -152,13 +173,11 @@ fn look(input: &mut [u8; INPUT], held: Held) -> Turn {
 // The most turns that a line takes: each but the last brings a byte.
 const TURNS: usize = INPUT + 1;
 
-// The next line. A proved loop has to end: it counts its turns down.
-pub fn next_line(input: &mut [u8; INPUT], held: Held) -> Next {
+// The next line. A proved loop has to end: it counts its turns.
+pub fn next_line(rt: &HostRuntime, input: &mut [u8; INPUT], held: Held) -> Next {
     let mut now = held;
-    let mut turns = TURNS;
-    while turns > 0 {
-        turns -= 1;
-        match look(input, now) {
+    for _ in 0..TURNS {
+        match look(rt, input, now) {
             Turn::Done(found) => return found,
             Turn::More(more) => now = more,
         }
