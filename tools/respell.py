@@ -110,7 +110,7 @@ def renaming():
             if found:
                 fields.add(found[1].strip("◌"))
     outside = imported(specs + proofs + files("crates/*/src/**/*.rt"))
-    new = {}
+    new = dict(CHOSEN)
     for name in every:
         if name in outside:
             continue

@@ -14,12 +14,12 @@ zeros n = replicate n 0
 
 -- a Signal of version 6 in `size` bytes with so many data bytes, the slot ID and TSEC given, all else zero or as 01 fixes it
 abbrev pub signal : ℕ → ℕ → ℕ → ℕ → List ℕ
-signal size dataBytes slotId tsec =
+signal size data_bytes slot_id tsec =
     (6 ∷ 0 ∷ 26 ∷ 4 ∷ [])
     ++ (zeros 4 ++ (big 2 size ++ zeros 10))
-    ++ (big 2 16384 ++ (big 2 100 ++ (zeros 4 ++ (big 2 (8 * dataBytes) ++ zeros 2))))
+    ++ (big 2 16384 ++ (big 2 100 ++ (zeros 4 ++ (big 2 (8 * data_bytes) ++ zeros 2))))
     ++ (zeros 3 ++ (tsec ∷ 0 ∷ 0 ∷ zeros 2))
-    ++ (big 4 slotId ++ zeros 8)
+    ++ (big 4 slot_id ++ zeros 8)
     ++ zeros (size - 52)
 
 -- a type 0 Signal of so many words, in a PDU of the size given

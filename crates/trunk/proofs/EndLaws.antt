@@ -142,9 +142,9 @@ row_copied store out i size room =
     ∙ ap (λ (m : ℕ). row_record store i ++ drop m out) long
 
 -- an arrival that is not refused: a head, a PDU that fits the output, and room for both; and the number is not the last
-pub record ArrivalFits (r : List ℕ) (replyRoom room : ℕ) : Type 0 where
+pub record ArrivalFits (r : List ℕ) (reply_room room : ℕ) : Type 0 where
   pub form : Formed r
-  pub reply : head_size ≤ replyRoom
+  pub reply : head_size ≤ reply_room
   pub output : longest_pdu ≤ room
   pub number : number_in r ≢ last_number
 
@@ -155,16 +155,16 @@ last-not r pdu e =
     let (last, carried) = unbroken (pdu_rules r) refl e in
     eqb-false _ _ (sym (ap (λ (b : Bool). not b && eqb (number_in r) last_number) pdu) ∙ last)
 
-pub arrival_fits : (r : List ℕ) (replyRoom room : ℕ) → first (arrival_rules r replyRoom room) ≡ 0 → ArrivalFits r replyRoom room
+pub arrival_fits : (r : List ℕ) (reply_room room : ℕ) → first (arrival_rules r reply_room room) ≡ 0 → ArrivalFits r reply_room room
 unfolding arrival_rules
-arrival_fits r replyRoom room e =
-    let form = form_none r (arrival_rest r replyRoom room) e in
+arrival_fits r reply_room room e =
+    let form = form_none r (arrival_rest r reply_room room) e in
     let reply_rule = (29 given_when is_reply r) ∷ [] in
-    let (reply, behind) = none_of reply_rule (pdu_rules r ++ room_rules replyRoom room) refl form.1 in
+    let (reply, behind) = none_of reply_rule (pdu_rules r ++ room_rules reply_room room) refl form.1 in
     let (no_reply, end) = unbroken reply_rule refl reply in
-    let pdu = pdu_none r (room_rules replyRoom room) behind in
-    let (roomy, end') = unbroken (room_rules replyRoom room) refl pdu.1 in
-    let space = (neither _ _ (not_below replyRoom _) (not_below room _)).0 roomy in
+    let pdu = pdu_none r (room_rules reply_room room) behind in
+    let (roomy, end') = unbroken (room_rules reply_room room) refl pdu.1 in
+    let space = (neither _ _ (not_below reply_room _) (not_below room _)).0 roomy in
     record {
       form = formed r form.0;
       reply = space.0;

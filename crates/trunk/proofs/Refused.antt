@@ -63,31 +63,31 @@ reply_keeps near r = by (eqb (first (reply_rules near r)) 0) refl
 
 -- an arrival's answer is a refusal only where a rule is broken
 arrival_broken :
-    (far : Far) (r reply out : List ℕ) (replyRoom room : ℕ)
-    → Refused (record_heard r (arrived far r replyRoom room).answer reply out)
-    → eqb (first (arrival_rules r replyRoom room)) 0 ≡ false
+    (far : Far) (r reply out : List ℕ) (reply_room room : ℕ)
+    → Refused (record_heard r (arrived far r reply_room room).answer reply out)
+    → eqb (first (arrival_rules r reply_room room)) 0 ≡ false
 unfolding arrived
-arrival_broken far r reply out replyRoom room =
-    by (eqb (first (arrival_rules r replyRoom room)) 0) (is_next far.count (number_in r)) (ltb (number_in r) far.count) refl refl refl
+arrival_broken far r reply out reply_room room =
+    by (eqb (first (arrival_rules r reply_room room)) 0) (is_next far.count (number_in r)) (ltb (number_in r) far.count) refl refl refl
   where
     by :
         (none next below : Bool)
-        → eqb (first (arrival_rules r replyRoom room)) 0 ≡ none
+        → eqb (first (arrival_rules r reply_room room)) 0 ≡ none
         → is_next far.count (number_in r) ≡ next
         → ltb (number_in r) far.count ≡ below
-        → Refused (record_heard r (arrived far r replyRoom room).answer reply out)
-        → eqb (first (arrival_rules r replyRoom room)) 0 ≡ false
+        → Refused (record_heard r (arrived far r reply_room room).answer reply out)
+        → eqb (first (arrival_rules r reply_room room)) 0 ≡ false
     by false next below e n b x = e
     by true true below e n b x = absurd (rw (e, n) at x)
     by true false true e n b x = absurd (rw (e, n, b) at x)
     by true false false e n b x = absurd (rw (e, n, b) at x)
 
 far_kept :
-    (far : Far) (r : List ℕ) (replyRoom room : ℕ)
-    → eqb (first (arrival_rules r replyRoom room)) 0 ≡ false
-    → (arrived far r replyRoom room).far ≡ far
+    (far : Far) (r : List ℕ) (reply_room room : ℕ)
+    → eqb (first (arrival_rules r reply_room room)) 0 ≡ false
+    → (arrived far r reply_room room).far ≡ far
 unfolding arrived
-far_kept far r replyRoom room e = rw e
+far_kept far r reply_room room e = rw e
 
 pub reply_kept :
     (far : Far) (r reply : List ℕ) (room : ℕ)
@@ -98,11 +98,11 @@ reply_kept far r reply room e =
     ap (λ (b : Bool). cond b (reply_of (count_after far.count (number_in r)) ++ drop head_size reply) reply) e
 
 pub output_kept :
-    (far : Far) (r : List ℕ) (replyRoom : ℕ) (out : List ℕ)
-    → eqb (first (arrival_rules r replyRoom (length out))) 0 ≡ false
-    → output_after far r replyRoom out ≡ out
+    (far : Far) (r : List ℕ) (reply_room : ℕ) (out : List ℕ)
+    → eqb (first (arrival_rules r reply_room (length out))) 0 ≡ false
+    → output_after far r reply_room out ≡ out
 unfolding output_after
-output_kept far r replyRoom out e =
+output_kept far r reply_room out e =
     ap (λ (b : Bool). cond b (cond (is_next far.count (number_in r)) (carried_in r ++ drop (length (carried_in r)) out) out) out) e
 
 station_kept : (s : Station) (t : ℕ) → (clocked s t).answer ≡ 36 → (clocked s t).station ≡ s

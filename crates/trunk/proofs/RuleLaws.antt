@@ -82,8 +82,8 @@ rows-say near pdus few = by (no_rows near pdus) refl
     by true e = (λ z. absurd (true≢false z), λ free. absurd (omega (arith, ltb-true)))
     by false e = (λ z. omega (arith, ltb-false), λ free. refl)
 
-room_says : (replyRoom room : ℕ) → (lacks_room replyRoom room ≡ false) ↔ RoomRule replyRoom room
-room_says replyRoom room = neither _ _ (not_below _ _) (not_below _ _)
+room_says : (reply_room room : ℕ) → (lacks_room reply_room room ≡ false) ↔ RoomRule reply_room room
+room_says reply_room room = neither _ _ (not_below _ _) (not_below _ _)
 
 -- ---- the calls
 
@@ -163,17 +163,17 @@ check-verdict r b =
 pub arrival_verdict :
     (r : List ℕ)
     → Bytes r
-    → (replyRoom room : ℕ)
-    → Verdict (arrival_rules r replyRoom room) (plain_arrival r replyRoom room)
+    → (reply_room room : ℕ)
+    → Verdict (arrival_rules r reply_room room) (plain_arrival r reply_room room)
 unfolding arrival_rules form_rules pdu_rules
-arrival_verdict r b replyRoom room =
+arrival_verdict r b reply_room room =
     verdict
     (kind_says r
     then λ kind. length_says r
     then λ size. is_pdu_says r
     then λ pdu. last_says r pdu
     then λ last. wrong_says r b pdu
-    then λ carried. room_says replyRoom room
+    then λ carried. room_says reply_room room
     then λ fits. done)
 
 -- ---- what is known where all rules of a call are met
@@ -195,21 +195,21 @@ held_met near store i room (whole, (held, rest)) = held
 pub reply_met : (near : Near) (r : List ℕ) → Met (plain_reply near r) → ReplyKind (num 1 0 r)
 reply_met near r (kind, (size, (reply, rest))) = reply
 
-pub pdu_met : (r : List ℕ) (replyRoom room : ℕ) → Met (plain_arrival r replyRoom room) → ¬ ReplyKind (num 1 0 r)
-pdu_met r replyRoom room (kind, (size, (pdu, rest))) = pdu
+pub pdu_met : (r : List ℕ) (reply_room room : ℕ) → Met (plain_arrival r reply_room room) → ¬ ReplyKind (num 1 0 r)
+pdu_met r reply_room room (kind, (size, (pdu, rest))) = pdu
 
 -- ---- records that break no rule
 
 -- the record of a carried PDU, where there is room
 pub arrival_passes :
-    (r : List ℕ) (replyRoom room : ℕ)
+    (r : List ℕ) (reply_room room : ℕ)
     → Sound r
-    → head_size ≤ replyRoom
+    → head_size ≤ reply_room
     → longest_pdu ≤ room
-    → first (arrival_rules r replyRoom room) ≡ 0
+    → first (arrival_rules r reply_room room) ≡ 0
 unfolding arrival_rules form_rules pdu_rules
-arrival_passes r replyRoom room s h k =
-    rw (s.known, s.sized, s.no_reply, s.not_last, s.right, (room_says replyRoom room).1 (h, k))
+arrival_passes r reply_room room s h k =
+    rw (s.known, s.sized, s.no_reply, s.not_last, s.right, (room_says reply_room room).1 (h, k))
 
 -- a reply with a number up to the accepted count
 pub reply_passes : (near : Near) (r : List ℕ) (n : ℕ) → SoundReply r n → n ≤ near.accepted → first (reply_rules near r) ≡ 0

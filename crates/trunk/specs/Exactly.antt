@@ -69,17 +69,17 @@ pub record ReplyExactly (near : Near) (r : List ℕ) (a : Reply) : Type 0 where
   pub acknowledged : (n : ℕ) → (a ≡ Acknowledged n) ↔ (Met (plain_reply near r) × (n ≡ max near.acknowledged (num 4 1 r)))
 
 -- "a record at the far end, delivered (with PDU size and station's answer), repeat or early"
-pub record ArriveExactly (far : Far) (r : List ℕ) (replyRoom room : ℕ) (a : Arrival) : Type 0 where
-  pub refused : (n : ℕ) → (a ≡ refused_arrival n) ↔ FirstBroken n (plain_arrival r replyRoom room)
+pub record ArriveExactly (far : Far) (r : List ℕ) (reply_room room : ℕ) (a : Arrival) : Type 0 where
+  pub refused : (n : ℕ) → (a ≡ refused_arrival n) ↔ FirstBroken n (plain_arrival r reply_room room)
   pub delivered :
       (size answer : ℕ)
       → (a ≡ Delivered size answer)
-      ↔ (Met (plain_arrival r replyRoom room)
+      ↔ (Met (plain_arrival r reply_room room)
       × (num 4 1 r ≡ far.count)
       × (size ≡ length (drop 5 r))
       × (answer ≡ (heard far.station (drop 5 r)).answer))
-  pub repeat : (a ≡ Repeat) ↔ (Met (plain_arrival r replyRoom room) × (num 4 1 r < far.count))
-  pub early : (a ≡ Early) ↔ (Met (plain_arrival r replyRoom room) × (far.count < num 4 1 r))
+  pub repeat : (a ≡ Repeat) ↔ (Met (plain_arrival r reply_room room) × (num 4 1 r < far.count))
+  pub early : (a ≡ Early) ↔ (Met (plain_arrival r reply_room room) × (far.count < num 4 1 r))
 
 -- the check of a record: a refusal's number, or kind, number and size as they stand in it
 pub record CheckExactly (r : List ℕ) (c : Checked) : Type 0 where

@@ -26,17 +26,17 @@ made_far given = record { far = fresh_far (made given).station; answer = (made g
 
 -- "16 if the reply buffer is under 5 bytes or the output under 180"
 abbrev pub lacks_room : ℕ → ℕ → Bool
-lacks_room replyRoom room = ltb replyRoom head_size || ltb room longest_pdu
+lacks_room reply_room room = ltb reply_room head_size || ltb room longest_pdu
 
 abbrev pub room_rules : ℕ → ℕ → List Refusal
-room_rules replyRoom room = (16 given_when lacks_room replyRoom room) ∷ []
+room_rules reply_room room = (16 given_when lacks_room reply_room room) ∷ []
 
 -- "On a record: 20, 21, 29, 25, 22, then 16"; and those behind the form
 abbrev pub arrival_rest : List ℕ → ℕ → ℕ → List Refusal
-arrival_rest r replyRoom room = (29 given_when is_reply r) ∷ (pdu_rules r ++ room_rules replyRoom room)
+arrival_rest r reply_room room = (29 given_when is_reply r) ∷ (pdu_rules r ++ room_rules reply_room room)
 
 unfoldable pub arrival_rules : List ℕ → ℕ → ℕ → List Refusal
-arrival_rules r replyRoom room = form_rules r ++ arrival_rest r replyRoom room
+arrival_rules r reply_room room = form_rules r ++ arrival_rest r reply_room room
 
 -- "Number k": whether a record with this number is the next
 unfoldable pub is_next : ℕ → ℕ → Bool
@@ -62,10 +62,10 @@ placed far r =
 
 -- what an arrival answers and leaves
 unfoldable pub arrived : Far → List ℕ → ℕ → ℕ → Arrived
-arrived far r replyRoom room =
-    cond (eqb (first (arrival_rules r replyRoom room)) 0)
+arrived far r reply_room room =
+    cond (eqb (first (arrival_rules r reply_room room)) 0)
     (placed far r)
-    (record { far = far; answer = Refused (first (arrival_rules r replyRoom room)) })
+    (record { far = far; answer = Refused (first (arrival_rules r reply_room room)) })
 
 -- what it leaves in the reply buffer: "All three write a reply with the new k at its buffer's start"
 unfoldable pub reply_after : Far → List ℕ → List ℕ → ℕ → List ℕ
@@ -76,8 +76,8 @@ reply_after far r reply room =
 
 -- what it leaves in the output: "only the first touches the output"
 unfoldable pub output_after : Far → List ℕ → ℕ → List ℕ → List ℕ
-output_after far r replyRoom out =
-    cond (eqb (first (arrival_rules r replyRoom (length out))) 0)
+output_after far r reply_room out =
+    cond (eqb (first (arrival_rules r reply_room (length out))) 0)
     (cond (is_next far.count (number_in r)) (carried_in r ++ drop (length (carried_in r)) out) out)
     out
 

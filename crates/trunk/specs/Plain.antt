@@ -92,7 +92,7 @@ NumberRule number = number ≢ 4294967295
 
 -- 16 at the far end: "if the reply buffer is under 5 bytes or the output under 180"
 abbrev pub RoomRule : ℕ → ℕ → Type 0
-RoomRule replyRoom room = (5 ≤ replyRoom) × (180 ≤ room)
+RoomRule reply_room room = (5 ≤ reply_room) × (180 ≤ room)
 
 -- 29: the kind of a reply
 abbrev pub ReplyKind : ℕ → Type 0
@@ -181,13 +181,13 @@ plain_reply near r =
 
 -- A record at the far end: 20, 21, 29, 25, 22, 16
 abbrev pub plain_arrival : List ℕ → ℕ → ℕ → List Rule
-plain_arrival r replyRoom room =
+plain_arrival r reply_room room =
     (20 unless KindRule r)
     ∷ (21 unless LengthRule r)
     ∷ (29 unless (¬ ReplyKind (num 1 0 r)))
     ∷ (25 unless NumberRule (num 4 1 r))
     ∷ (22 unless CarriedRule r)
-    ∷ (16 unless RoomRule replyRoom room)
+    ∷ (16 unless RoomRule reply_room room)
     ∷ []
 
 -- "The lister and the host's check test 20, 21, 25, 22"; 25 and 22 are of a PDU record

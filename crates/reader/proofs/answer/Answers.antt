@@ -6,6 +6,10 @@ use Rattle.pdu.proofs.Answers.{refusal-read}
 use Rattle.pdu.proofs.ReadLaws.{refused-size, taken_laid, laid_long}
 use Rattle.pdu.proofs.BundleLaws.{used-field}
 use Rattle.reader.proofs.answer.Goals as goal
+use Rattle.reader.proofs.answer.Goals.{Else-number-ne0}
+
+none : (c : Else-number-ne0) → refusal c.args.datagram.now ≡ 0
+none c = sym c.reading_refusal-number.ensures ∙ c.if-number-ne0.false
 
 pub returns-then-number-ne0 : goal.returns-then-number-ne0
 returns-then-number-ne0 c =
@@ -18,17 +22,13 @@ returns-then-number-ne0 c =
     }
 
 pub u16_at-size-requires : goal.u16_at-size-requires
-u16_at-size-requires c =
-    let none : refusal c.args.datagram.now ≡ 0 =
-    sym c.reading_refusal-number.ensures ∙ c.if-number-ne0.false in
-    omega (arith, laid_long c.args.datagram.now (taken_laid c.args.datagram.now none))
+u16_at-size-requires c = omega (arith, laid_long c.args.datagram.now (taken_laid c.args.datagram.now (none c)))
 
 pub returns : goal.returns
 returns c =
-    let none : refusal c.args.datagram.now ≡ 0 =
-    sym c.reading_refusal-number.ensures ∙ c.if-number-ne0.false in
+    let past = (goal.at.returns c).Else-number-ne0 in
     λ i.
     record {
       number = (c.reading_refusal-number.ensures ∙ sym (refusal-read c.args.datagram.now)) i;
-      size = (c.u16_at-size.ensures ∙ sym (used-field c.args.datagram.now none)) i;
+      size = (c.u16_at-size.ensures ∙ sym (used-field c.args.datagram.now (none past))) i;
     }

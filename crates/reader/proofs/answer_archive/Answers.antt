@@ -5,6 +5,10 @@ use Rattle.pdu.specs.Reading.{archive_refusal}
 use Rattle.pdu.proofs.ReadLaws.{laid_long}
 use Rattle.pdu.proofs.ArchiveLaws.{archive-number, archive-size, archive-no-size, archive_laid}
 use Rattle.reader.proofs.answer_archive.Goals as goal
+use Rattle.reader.proofs.answer_archive.Goals.{Else-number-ne0}
+
+none : (c : Else-number-ne0) → archive_refusal c.args.datagram.now ≡ 0
+none c = sym c.archive_refusal-number.ensures ∙ c.if-number-ne0.false
 
 pub returns-then-number-ne0 : goal.returns-then-number-ne0
 returns-then-number-ne0 c =
@@ -17,17 +21,13 @@ returns-then-number-ne0 c =
     }
 
 pub u16_at-size-requires : goal.u16_at-size-requires
-u16_at-size-requires c =
-    let none : archive_refusal c.args.datagram.now ≡ 0 =
-    sym c.archive_refusal-number.ensures ∙ c.if-number-ne0.false in
-    omega (arith, laid_long c.args.datagram.now (archive_laid c.args.datagram.now none))
+u16_at-size-requires c = omega (arith, laid_long c.args.datagram.now (archive_laid c.args.datagram.now (none c)))
 
 pub returns : goal.returns
 returns c =
-    let none : archive_refusal c.args.datagram.now ≡ 0 =
-    sym c.archive_refusal-number.ensures ∙ c.if-number-ne0.false in
+    let past = (goal.at.returns c).Else-number-ne0 in
     λ i.
     record {
       number = (c.archive_refusal-number.ensures ∙ sym (archive-number c.args.datagram.now)) i;
-      size = (c.u16_at-size.ensures ∙ sym (archive-size c.args.datagram.now none)) i;
+      size = (c.u16_at-size.ensures ∙ sym (archive-size c.args.datagram.now (none past))) i;
     }

@@ -4,6 +4,10 @@ use mathlib.Core.Path.{◌≡◌, sym, ◌∙◌}
 use Rattle.pdu.specs.Reading.{refusal}
 use Rattle.pdu.proofs.ArchiveLaws.{archive_same, archive-behind, retired_signal}
 use Rattle.reader.proofs.archive_refusal.Goals as goal
+use Rattle.reader.proofs.archive_refusal.Goals.{Else-n-ne-RETIRED}
+
+retired : (c : Else-n-ne-RETIRED) → refusal c.args.d.now ≡ 50
+retired c = sym c.reading_refusal-n.ensures ∙ c.if-n-ne-RETIRED.false
 
 pub returns-then-n-ne-RETIRED : goal.returns-then-n-ne-RETIRED
 returns-then-n-ne-RETIRED c =
@@ -11,13 +15,9 @@ returns-then-n-ne-RETIRED c =
     answer ∙ sym (archive_same _ (λ e. c.if-n-ne-RETIRED.true (answer ∙ e)))
 
 pub body_refusal-requires : goal.body_refusal-requires
-body_refusal-requires c =
-    let retired : refusal c.args.d.now ≡ 50 =
-    sym c.reading_refusal-n.ensures ∙ c.if-n-ne-RETIRED.false in
-    retired_signal c.args.d.now retired
+body_refusal-requires c = retired_signal c.args.d.now (retired c)
 
 pub returns : goal.returns
 returns c =
-    let retired : refusal c.args.d.now ≡ 50 =
-    sym c.reading_refusal-n.ensures ∙ c.if-n-ne-RETIRED.false in
-    c.body_refusal.ensures ∙ sym (archive-behind c.args.d.now retired)
+    let past = (goal.at.returns c).Else-n-ne-RETIRED in
+    c.body_refusal.ensures ∙ sym (archive-behind c.args.d.now (retired past))

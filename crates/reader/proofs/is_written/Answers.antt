@@ -15,6 +15,7 @@ use Rattle.pdu.specs.declared.Reading.{Reading}
 use Rattle.pdu.proofs.Agreement.{content-transmitter, content-signal}
 use Rattle.pdu.proofs.ReadLaws.{start_long, start_next, start_here}
 use Rattle.reader.proofs.is_written.Goals as goal
+use Rattle.reader.proofs.is_written.Goals.{Else-refusal-ne0, Else-u8_at-eq-TRANSMITTER_TYPE, Then-u8_at-eq-TRANSMITTER_TYPE}
 
 -- past 1, 2 and 3 a datagram is in written form as its own form says
 by_form : (held : List ℕ) (r : Reading) → first (start_rules held) ≡ 0 → content held ≡ r → written_as r held ≡ in_written_form held
@@ -22,6 +23,16 @@ unfolding in_written_form
 by_form held r e same =
     ap (λ (q : Reading). written_as q held) (sym same)
     ∙ ap (λ (n : ℕ). eqb n 0 && only_form (content held) held) (sym (start_next held e))
+
+none : (c : Else-refusal-ne0) → first (start_rules c.args.datagram.now) ≡ 0
+none c = sym c.refusal.ensures ∙ c.if-refusal-ne0.false
+
+-- what byte 2 says
+transmitter : (c : Then-u8_at-eq-TRANSMITTER_TYPE) → num 1 2 c.args.datagram.now ≡ 25
+transmitter c = sym c.u8_at.ensures ∙ c.if-u8_at-eq-TRANSMITTER_TYPE.true
+
+signal : (c : Else-u8_at-eq-TRANSMITTER_TYPE) → num 1 2 c.args.datagram.now ≢ 25
+signal c e = c.if-u8_at-eq-TRANSMITTER_TYPE.false (c.u8_at.ensures ∙ e)
 
 pub returns-then-refusal-ne0 : goal.returns-then-refusal-ne0
 unfolding in_written_form
@@ -32,35 +43,26 @@ returns-then-refusal-ne0 c =
     rw (ne_eqb (refusal held) 0 (λ e. some (sym (start_here held some) ∙ e)))
 
 pub u8_at-requires : goal.u8_at-requires
-u8_at-requires c =
-    let none : first (start_rules c.args.datagram.now) ≡ 0 =
-    sym c.refusal.ensures ∙ c.if-refusal-ne0.false in
-    omega (arith, start_long c.args.datagram.now none)
+u8_at-requires c = omega (arith, start_long c.args.datagram.now (none c))
 
 pub is_written-requires : goal.is_written-requires
 is_written-requires c =
-    let none : first (start_rules c.args.datagram.now) ≡ 0 =
-    sym c.refusal.ensures ∙ c.if-refusal-ne0.false in
-    start_long _ none
+    let past = (goal.at.is_written-requires c).Else-refusal-ne0 in
+    start_long _ (none past)
 
 pub is_written-requires-else-u8_at-eq-TRANSMITTER_TYPE : goal.is_written-requires-else-u8_at-eq-TRANSMITTER_TYPE
 is_written-requires-else-u8_at-eq-TRANSMITTER_TYPE c =
-    let none : first (start_rules c.args.datagram.now) ≡ 0 =
-    sym c.refusal.ensures ∙ c.if-refusal-ne0.false in
-    start_long _ none
+    let past = (goal.at.is_written-requires-else-u8_at-eq-TRANSMITTER_TYPE c).Else-refusal-ne0 in
+    start_long _ (none past)
 
 pub returns-then-u8_at-eq-TRANSMITTER_TYPE : goal.returns-then-u8_at-eq-TRANSMITTER_TYPE
 returns-then-u8_at-eq-TRANSMITTER_TYPE c =
-    let none : first (start_rules c.args.datagram.now) ≡ 0 =
-    sym c.refusal.ensures ∙ c.if-refusal-ne0.false in
-    let transmitter : num 1 2 c.args.datagram.now ≡ 25 =
-    sym c.u8_at.ensures ∙ c.if-u8_at-eq-TRANSMITTER_TYPE.true in
-    c.is_written.ensures ∙ by_form c.args.datagram.now _ none (content-transmitter c.args.datagram.now transmitter)
+    let start = (goal.at.returns-then-u8_at-eq-TRANSMITTER_TYPE c).Else-refusal-ne0 in
+    let past = (goal.at.returns-then-u8_at-eq-TRANSMITTER_TYPE c).Then-u8_at-eq-TRANSMITTER_TYPE in
+    c.is_written.ensures ∙ by_form c.args.datagram.now _ (none start) (content-transmitter c.args.datagram.now (transmitter past))
 
 pub returns-else-u8_at-eq-TRANSMITTER_TYPE : goal.returns-else-u8_at-eq-TRANSMITTER_TYPE
 returns-else-u8_at-eq-TRANSMITTER_TYPE c =
-    let none : first (start_rules c.args.datagram.now) ≡ 0 =
-    sym c.refusal.ensures ∙ c.if-refusal-ne0.false in
-    let signal : num 1 2 c.args.datagram.now ≢ 25 =
-    λ e. c.if-u8_at-eq-TRANSMITTER_TYPE.false (c.u8_at.ensures ∙ e) in
-    c.is_written-else-u8_at-eq-TRANSMITTER_TYPE.ensures ∙ by_form c.args.datagram.now _ none (content-signal c.args.datagram.now signal)
+    let start = (goal.at.returns-else-u8_at-eq-TRANSMITTER_TYPE c).Else-refusal-ne0 in
+    let past = (goal.at.returns-else-u8_at-eq-TRANSMITTER_TYPE c).Else-u8_at-eq-TRANSMITTER_TYPE in
+    c.is_written-else-u8_at-eq-TRANSMITTER_TYPE.ensures ∙ by_form c.args.datagram.now _ (none start) (content-signal c.args.datagram.now (signal past))

@@ -17,7 +17,7 @@ pub u8_at-requires : goal.u8_at-requires
 u8_at-requires c =
     let laid : SignalLaid c.args.d.now =
     signal_laid c.args.d.now c.requires.0 in
-    omega (arith, (laid).size)
+    omega (arith, laid.size)
 
 pub u16_at-requires : goal.u16_at-requires
 unfolding signal_of
@@ -31,7 +31,7 @@ u16_at-requires c =
     let six : TimingRule message (body_size c.args.d.now) =
     timing-size (signal_of c.args.d.now) (body_size c.args.d.now) c.requires.1 in
     let timing = (one_of _ _ (equal message _) (equal message _)).0 (sym tested ∙ c.if-is_timing.true) in
-    omega (arith, (laid).size, six timing)
+    omega (arith, laid.size, six timing)
 
 pub returns-then-is_timing : goal.returns-then-is_timing
 unfolding signal_of
@@ -42,7 +42,7 @@ returns-then-is_timing c =
     c.is_timing.ensures ∙ ap is_timing c.u8_at.ensures in
     let six : TimingRule message (body_size c.args.d.now) =
     timing-size (signal_of c.args.d.now) (body_size c.args.d.now) c.requires.1 in
-    let bytes : Bytes c.args.d.now = λ i. omega (arith, c.shared_slice_known-1.given i) in
+    let bytes : Bytes c.args.d.now = λ i. omega (arith, c.type_inv.d i) in
     ap (λ (v : ℕ). eqb (v / 8) 0) c.u16_at.ensures
     ∙ sym (timing-blank message _ body_start c.args.d.now (sym tested ∙ c.if-is_timing.true) six bytes)
 

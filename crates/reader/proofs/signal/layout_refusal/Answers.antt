@@ -9,27 +9,24 @@ use Rattle.pdu.specs.Numbers
 use Rattle.pdu.specs.Reading.{wrong_length}
 use Rattle.pdu.proofs.ReadLaws.{right-length}
 use Rattle.reader.proofs.signal.layout_refusal.Goals as goal
+use Rattle.reader.proofs.signal.layout_refusal.Goals.{Else-wrong_length}
+
+-- what each test has shown
+length-right : (c : Else-wrong_length) → wrong_length Numbers.signal_least c.args.d.now ≡ false
+length-right c = sym c.wrong_length.ensures ∙ c.if-wrong_length.false
+
+long : (c : Else-wrong_length) → Numbers.signal_least ≤ length c.args.d.now
+long c = right-length _ c.args.d.now (length-right c)
 
 pub u16_at-requires : goal.u16_at-requires
-u16_at-requires c =
-    let length-right : wrong_length Numbers.signal_least c.args.d.now ≡ false =
-    sym c.wrong_length.ensures ∙ c.if-wrong_length.false in
-    let long : Numbers.signal_least ≤ length c.args.d.now =
-    right-length _ c.args.d.now length-right in
-    omega (arith, long)
+u16_at-requires c = omega (arith, long c)
 
 pub u16_at-requires-2 : goal.u16_at-requires-2
 u16_at-requires-2 c =
-    let length-right : wrong_length Numbers.signal_least c.args.d.now ≡ false =
-    sym c.wrong_length.ensures ∙ c.if-wrong_length.false in
-    let long : Numbers.signal_least ≤ length c.args.d.now =
-    right-length _ c.args.d.now length-right in
-    omega (arith, long)
+    let past = (goal.at.u16_at-requires-2 c).Else-wrong_length in
+    omega (arith, long past)
 
 pub u16_at-bits-requires : goal.u16_at-bits-requires
 u16_at-bits-requires c =
-    let length-right : wrong_length Numbers.signal_least c.args.d.now ≡ false =
-    sym c.wrong_length.ensures ∙ c.if-wrong_length.false in
-    let long : Numbers.signal_least ≤ length c.args.d.now =
-    right-length _ c.args.d.now length-right in
-    omega (arith, long)
+    let past = (goal.at.u16_at-bits-requires c).Else-wrong_length in
+    omega (arith, long past)

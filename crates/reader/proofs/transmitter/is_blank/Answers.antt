@@ -18,32 +18,37 @@ use Rattle.pdu.specs.Reading.{version_seven}
 use Rattle.pdu.proofs.VersionLaws.{records_blank}
 use Rattle.pdu.proofs.ReadLaws.{transmitter_laid, records_laid}
 use Rattle.reader.proofs.transmitter.is_blank.Goals as goal
+use Rattle.reader.proofs.transmitter.is_blank.Goals.{After-shared_slice_known-1}
+
+bytes : (c : After-shared_slice_known-1) → Bytes c.args.d.now
+bytes c i = omega (arith, c.type_inv.d i)
+
+long : (c : After-shared_slice_known-1) → Numbers.transmitter_size ≤ length c.args.d.now
+long c = (transmitter_laid c.args.d.now c.requires).size
+
+-- the padding behind the shared bytes
+late : (c : After-shared_slice_known-1) → all_blank 20 (entity_table (version_seven c.args.d.now) ++ (antenna_table ++ (emission_table ++ sync_table))) c.args.d.now
+    ≡ (eqb (num 2 30 c.args.d.now) 0 && eqb (num 3 101 c.args.d.now) 0)
+late c =
+    let records = records_blank (num 1 0 c.args.d.now) (num 2 30 c.args.d.now) (records_laid c.args.d.now c.requires) (num-lt 2 30 c.args.d.now (bytes c)) in
+    ap₂ ◌&&◌ records (and_true (eqb (num 3 101 c.args.d.now) 0))
 
 pub u16_at-requires : goal.u16_at-requires
-u16_at-requires c =
-    let long : Numbers.transmitter_size ≤ length c.args.d.now =
-    (transmitter_laid c.args.d.now c.requires).size in
-    omega (arith, long)
+u16_at-requires c = omega (arith, long c)
 
 pub u24_at-requires : goal.u24_at-requires
 u24_at-requires c =
-    let long : Numbers.transmitter_size ≤ length c.args.d.now =
-    (transmitter_laid c.args.d.now c.requires).size in
-    omega (arith, long)
+    let past = (goal.at.u24_at-requires c).After-shared_slice_known-1 in
+    omega (arith, long past)
 
 pub is_blank-requires : goal.is_blank-requires
 is_blank-requires c =
-    let long : Numbers.transmitter_size ≤ length c.args.d.now =
-    (transmitter_laid c.args.d.now c.requires).size in
-    omega (arith, long)
+    let start = (goal.at.is_blank-requires c).After-shared_slice_known-1 in
+    omega (arith, long start)
 
 pub returns : goal.returns
 returns c =
-    let bytes : Bytes c.args.d.now =
-    λ i. omega (arith, c.shared_slice_known-1.given i) in
-    let late : all_blank 20 (entity_table (version_seven c.args.d.now) ++ (antenna_table ++ (emission_table ++ sync_table))) c.args.d.now ≡ (eqb (num 2 30 c.args.d.now) 0 && eqb (num 3 101 c.args.d.now) 0) =
-    let records = records_blank (num 1 0 c.args.d.now) (num 2 30 c.args.d.now) (records_laid c.args.d.now c.requires) (num-lt 2 30 c.args.d.now bytes) in
-    ap₂ ◌&&◌ records (and_true (eqb (num 3 101 c.args.d.now) 0)) in
+    let start = (goal.at.returns c).After-shared_slice_known-1 in
     let seven = version_seven c.args.d.now in
     rw (
       c.both.ensures,
@@ -51,7 +56,7 @@ returns c =
       c.both-late.ensures,
       c.u24_at.ensures,
       c.u16_at.ensures,
-      ← late,
+      ← (late start),
     )
     (sym
     (blank-append (header_table seven Numbers.transmitter_type Numbers.transmitter_size)

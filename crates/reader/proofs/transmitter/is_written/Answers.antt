@@ -12,6 +12,7 @@ use Rattle.pdu.specs.declared.Reading.{Reading}
 use Rattle.pdu.specs.declared.Reading.TheVariants.{Transmitter as a_transmitter}
 use Rattle.pdu.proofs.ReadLaws.{transmitter_laid, form_here, form_next, not_written, written-blank}
 use Rattle.reader.proofs.transmitter.is_written.Goals as goal
+use Rattle.reader.proofs.transmitter.is_written.Goals.{Else-layout_refusal-ne0}
 
 -- the form; and past the layout's rules: the datagram, and that none is broken
 abbrev form : List ℕ → Reading
@@ -28,6 +29,9 @@ broken d e z =
     let nine : ◌≡◌ {A = ℕ} 9 0 = rw e at z in
     omega arith
 
+laid : (c : Else-layout_refusal-ne0) → first (transmitter_layout c.args.d.now) ≡ 0
+laid c = sym c.layout_refusal.ensures ∙ c.if-layout_refusal-ne0.false
+
 pub returns-then-layout_refusal-ne0 : goal.returns-then-layout_refusal-ne0
 returns-then-layout_refusal-ne0 c =
     let answer = c.layout_refusal.ensures in
@@ -36,23 +40,18 @@ returns-then-layout_refusal-ne0 c =
     sym (not_written (form d) d (λ e. some (sym (form_here (form d) d some) ∙ e)))
 
 pub read_sync-requires : goal.read_sync-requires
-read_sync-requires c =
-    let laid : first (transmitter_layout c.args.d.now) ≡ 0 =
-    sym c.layout_refusal.ensures ∙ c.if-layout_refusal-ne0.false in
-    omega (arith, transmitter_laid c.args.d.now laid)
+read_sync-requires c = omega (arith, transmitter_laid c.args.d.now (laid c))
 
 pub returns-then-wrong_sync : goal.returns-then-wrong_sync
 returns-then-wrong_sync c =
-    let laid : first (transmitter_layout c.args.d.now) ≡ 0 =
-    sym c.layout_refusal.ensures ∙ c.if-layout_refusal-ne0.false in
+    let past = (goal.at.returns-then-wrong_sync c).Else-layout_refusal-ne0 in
     let wrong = sym (c.wrong_sync.ensures ∙ ap wrong_sync c.read_sync.ensures) ∙ c.if-wrong_sync.true in
-    sym (not_written (form c.args.d.now) c.args.d.now (λ e. broken c.args.d.now wrong (sym (form_next (form c.args.d.now) c.args.d.now laid) ∙ e)))
+    sym (not_written (form c.args.d.now) c.args.d.now (λ e. broken c.args.d.now wrong (sym (form_next (form c.args.d.now) c.args.d.now (laid past)) ∙ e)))
 
 pub returns : goal.returns
 unfolding transmitter_of
 returns c =
-    let laid : first (transmitter_layout c.args.d.now) ≡ 0 =
-    sym c.layout_refusal.ensures ∙ c.if-layout_refusal-ne0.false in
+    let past = (goal.at.returns c).Else-layout_refusal-ne0 in
     let d = c.args.d.now in
     let right = sym (c.wrong_sync.ensures ∙ ap wrong_sync c.read_sync.ensures) ∙ c.if-wrong_sync.false in
-    c.is_blank.ensures ∙ sym (written-blank (form d) d (form_next (form d) d laid ∙ inner d right) c.if-d-ne-TRANSMITTER_SIZE.false)
+    c.is_blank.ensures ∙ sym (written-blank (form d) d (form_next (form d) d (laid past) ∙ inner d right) c.if-d-ne-TRANSMITTER_SIZE.false)

@@ -9,7 +9,7 @@ use lib.ListN.{length, drop, length-take, length-drop}
 use native.Mathlib.Omega.{arith}
 use borrow.Author.Tests.{eq-eqb, lt-ltb, le-ltb}
 use Rattle.wire.proofs.ByteLaws.{splice-start}
-use Rattle.wire.specs.First.{Refusal, first}
+use Rattle.wire.specs.First.{first}
 use Rattle.wire.specs.Bytes.{splice}
 use Rattle.wire.proofs.PartLaws.{part_rest}
 use Rattle.station.specs.Hearing.{heard}
@@ -21,104 +21,77 @@ use Rattle.trunk.specs.declared.Arrived.{Arrived}
 use Rattle.trunk.proofs.RecordLaws.{length_reply}
 use Rattle.trunk.proofs.EndLaws.{ArrivalFits, arrival_fits}
 use Rattle.trunk.proofs.far_end.arrive.Goals as goal
+use Rattle.trunk.proofs.far_end.arrive.Goals.{After-head_of-head, Else-n-ne0}
+
+-- where there is no refusal: the test of the definition, and what the rules say
+passed : (c : Else-n-ne0) → first ((arrival_rules c.args.received.now (length c.args.reply.now) (length c.args.out.now))) ≡ 0
+passed c = sym c.arrival_refusal-n.ensures ∙ c.if-n-ne0.false
+
+taken : (c : Else-n-ne0) → eqb (first ((arrival_rules c.args.received.now (length c.args.reply.now) (length c.args.out.now)))) 0 ≡ true
+taken c = eq-eqb _ _ (passed c)
+
+fits : (c : Else-n-ne0) → ArrivalFits c.args.received.now (length c.args.reply.now) (length c.args.out.now)
+fits c = arrival_fits _ _ _ (passed c)
+
+-- the number read, the count after the record, and the reply with it
+number : (c : After-head_of-head) → c.head_of-head.result.number ≡ number_in c.args.received.now
+number c = ap (λ (h : Head). h.number) c.head_of-head.ensures
 
 pub head_of-head-requires : goal.head_of-head-requires
-head_of-head-requires c =
-    let rules : List Refusal =
-    arrival_rules c.args.received.now (length c.args.reply.now) (length c.args.out.now) in
-    let passed : first rules ≡ 0 =
-    sym c.arrival_refusal-n.ensures ∙ c.if-n-ne0.false in
-    let fits : ArrivalFits c.args.received.now (length c.args.reply.now) (length c.args.out.now) =
-    arrival_fits _ _ _ passed in
-    fits.form.head
+head_of-head-requires c = (fits c).form.head
 
 pub count_after-after-requires : goal.count_after-after-requires
 count_after-after-requires c =
-    let rules : List Refusal =
-    arrival_rules c.args.received.now (length c.args.reply.now) (length c.args.out.now) in
-    let passed : first rules ≡ 0 =
-    sym c.arrival_refusal-n.ensures ∙ c.if-n-ne0.false in
-    let fits : ArrivalFits c.args.received.now (length c.args.reply.now) (length c.args.out.now) =
-    arrival_fits _ _ _ passed in
-    let number : c.head_of-head.result.number ≡ number_in c.args.received.now =
-    ap (λ (h : Head). h.number) c.head_of-head.ensures in
-    let other = fits.number in
-    omega (arith, number, c.head_of-head.type_inv)
+    let past = (goal.at.count_after-after-requires c).Else-n-ne0 in
+    let other = (fits past).number in
+    omega (arith, number c, c.head_of-head.type_inv)
 
 pub put_reply-requires : goal.put_reply-requires
 put_reply-requires c =
-    let rules : List Refusal =
-    arrival_rules c.args.received.now (length c.args.reply.now) (length c.args.out.now) in
-    let passed : first rules ≡ 0 =
-    sym c.arrival_refusal-n.ensures ∙ c.if-n-ne0.false in
-    let fits : ArrivalFits c.args.received.now (length c.args.reply.now) (length c.args.out.now) =
-    arrival_fits _ _ _ passed in
-    fits.reply
+    let past = (goal.at.put_reply-requires c).Else-n-ne0 in
+    (fits past).reply
 
 pub slice_bounds-deliver-count : goal.slice_bounds-deliver-count
 slice_bounds-deliver-count c =
-    let rules : List Refusal =
-    arrival_rules c.args.received.now (length c.args.reply.now) (length c.args.out.now) in
-    let passed : first rules ≡ 0 =
-    sym c.arrival_refusal-n.ensures ∙ c.if-n-ne0.false in
-    let fits : ArrivalFits c.args.received.now (length c.args.reply.now) (length c.args.out.now) =
-    arrival_fits _ _ _ passed in
-    fits.form.head
+    let past = (goal.at.slice_bounds-deliver-count c).Else-n-ne0 in
+    (fits past).form.head
 
 pub slice_bounds-deliver-start : goal.slice_bounds-deliver-start
 slice_bounds-deliver-start c =
-    let rules : List Refusal =
-    arrival_rules c.args.received.now (length c.args.reply.now) (length c.args.out.now) in
-    let passed : first rules ≡ 0 =
-    sym c.arrival_refusal-n.ensures ∙ c.if-n-ne0.false in
-    let fits : ArrivalFits c.args.received.now (length c.args.reply.now) (length c.args.out.now) =
-    arrival_fits _ _ _ passed in
-    fits.form.head
+    let past = (goal.at.slice_bounds-deliver-start c).Else-n-ne0 in
+    (fits past).form.head
 
 pub deliver-requires : goal.deliver-requires
 deliver-requires c =
-    let rules : List Refusal =
-    arrival_rules c.args.received.now (length c.args.reply.now) (length c.args.out.now) in
-    let passed : first rules ≡ 0 =
-    sym c.arrival_refusal-n.ensures ∙ c.if-n-ne0.false in
-    let fits : ArrivalFits c.args.received.now (length c.args.reply.now) (length c.args.out.now) =
-    arrival_fits _ _ _ passed in
-    let f = fits in
+    let past = (goal.at.deliver-requires c).Else-n-ne0 in
+    let f = fits past in
     simp (length-take, length-drop) (omega (arith, f.form.short, f.output))
 
 pub returns-then-is_next : goal.returns-then-is_next
 unfolding arrived reply_after output_after
 returns-then-is_next c =
-    let number : c.head_of-head.result.number ≡ number_in c.args.received.now =
-    ap (λ (h : Head). h.number) c.head_of-head.ensures in
-    let next : is_next (c.args.far).count (number_in c.args.received.now) ≡ c.is_next.result =
-    ap (is_next (c.args.far).count) (sym number) ∙ sym c.is_next.ensures in
-    let rules : List Refusal =
-    arrival_rules c.args.received.now (length c.args.reply.now) (length c.args.out.now) in
-    let passed : first rules ≡ 0 =
-    sym c.arrival_refusal-n.ensures ∙ c.if-n-ne0.false in
-    let fits : ArrivalFits c.args.received.now (length c.args.reply.now) (length c.args.out.now) =
-    arrival_fits _ _ _ passed in
-    let taken : eqb (first rules) 0 ≡ true =
-    eq-eqb _ _ passed in
-    let count : c.count_after-after.result ≡ count_after (c.args.far).count (number_in c.args.received.now) =
-    c.count_after-after.ensures ∙ ap (count_after (c.args.far).count) number in
+    let past = (goal.at.returns-then-is_next c).After-head_of-head in
+    let earlier = (goal.at.returns-then-is_next c).Else-n-ne0 in
+    let next : is_next c.args.far.count (number_in c.args.received.now) ≡ c.is_next.result =
+    ap (is_next c.args.far.count) (sym (number past)) ∙ sym c.is_next.ensures in
+    let count : c.count_after-after.result ≡ count_after c.args.far.count (number_in c.args.received.now) =
+    c.count_after-after.ensures ∙ ap (count_after c.args.far.count) (number past) in
     let reply-due : List ℕ =
-    reply_of (count_after (c.args.far).count (number_in c.args.received.now)) ++ drop head_size c.args.reply.now in
+    reply_of (count_after c.args.far.count (number_in c.args.received.now)) ++ drop head_size c.args.reply.now in
     let replied : c.put_reply.new.reply ≡ reply-due =
     c.put_reply.ensures
-    ∙ splice-start (reply_of c.count_after-after.result) c.args.reply.now (rw (length_reply c.count_after-after.result) fits.reply)
+    ∙ splice-start (reply_of c.count_after-after.result) c.args.reply.now (rw (length_reply c.count_after-after.result) (fits earlier).reply)
     ∙ ap₂ (λ (m n : ℕ). reply_of n ++ drop m c.args.reply.now) (length_reply c.count_after-after.result) count in
     let here = next ∙ c.if-is_next.true in
     let pdu = part_rest head_size c.args.received.now in
-    let fit : length (carried_in c.args.received.now) ≤ length c.args.out.now = simp length-drop (omega (arith, fits.form.short, fits.output)) in
-    let said : List ℕ → List ℕ = λ p. 0 ∷ length p ∷ (heard (c.args.far).station p).answer ∷ [] in
+    let fit : length (carried_in c.args.received.now) ≤ length c.args.out.now = simp length-drop (omega (arith, (fits earlier).form.short, (fits earlier).output)) in
+    let said : List ℕ → List ℕ = λ p. 0 ∷ length p ∷ (heard c.args.far.station p).answer ∷ [] in
     record {
-      answer = rw (taken, here) (c.deliver.ensures.answer ∙ ap₂ (λ (n : ℕ) (p : List ℕ). delivered n (c.args.far).station p) count pdu);
-      says = rw (taken, here) (ap (λ (a : Arrived). arrival_says a.answer) c.deliver.ensures.answer ∙ ap said pdu);
-      reply_is = rw taken replied;
+      answer = rw (taken earlier, here) (c.deliver.ensures.answer ∙ ap₂ (λ (n : ℕ) (p : List ℕ). delivered n c.args.far.station p) count pdu);
+      says = rw (taken earlier, here) (ap (λ (a : Arrived). arrival_says a.answer) c.deliver.ensures.answer ∙ ap said pdu);
+      reply_is = rw (taken earlier) replied;
       output =
-          rw (taken, here)
+          rw (taken earlier, here)
           (c.deliver.ensures.output
           ∙ ap (λ (b : List ℕ). splice 0 b c.args.out.now) pdu
           ∙ splice-start (carried_in c.args.received.now) c.args.out.now fit);
@@ -127,63 +100,47 @@ returns-then-is_next c =
 pub returns-then-number-count : goal.returns-then-number-count
 unfolding arrived reply_after output_after
 returns-then-number-count c =
-    let number : c.head_of-head.result.number ≡ number_in c.args.received.now =
-    ap (λ (h : Head). h.number) c.head_of-head.ensures in
-    let next : is_next (c.args.far).count (number_in c.args.received.now) ≡ c.is_next.result =
-    ap (is_next (c.args.far).count) (sym number) ∙ sym c.is_next.ensures in
-    let rules : List Refusal =
-    arrival_rules c.args.received.now (length c.args.reply.now) (length c.args.out.now) in
-    let passed : first rules ≡ 0 =
-    sym c.arrival_refusal-n.ensures ∙ c.if-n-ne0.false in
-    let taken : eqb (first rules) 0 ≡ true =
-    eq-eqb _ _ passed in
+    let past = (goal.at.returns-then-number-count c).After-head_of-head in
+    let earlier = (goal.at.returns-then-number-count c).Else-n-ne0 in
+    let next : is_next c.args.far.count (number_in c.args.received.now) ≡ c.is_next.result =
+    ap (is_next c.args.far.count) (sym (number past)) ∙ sym c.is_next.ensures in
     let reply-due : List ℕ =
-    reply_of (count_after (c.args.far).count (number_in c.args.received.now)) ++ drop head_size c.args.reply.now in
-    let fits : ArrivalFits c.args.received.now (length c.args.reply.now) (length c.args.out.now) =
-    arrival_fits _ _ _ passed in
-    let count : c.count_after-after.result ≡ count_after (c.args.far).count (number_in c.args.received.now) =
-    c.count_after-after.ensures ∙ ap (count_after (c.args.far).count) number in
+    reply_of (count_after c.args.far.count (number_in c.args.received.now)) ++ drop head_size c.args.reply.now in
+    let count : c.count_after-after.result ≡ count_after c.args.far.count (number_in c.args.received.now) =
+    c.count_after-after.ensures ∙ ap (count_after c.args.far.count) (number past) in
     let replied : c.put_reply.new.reply ≡ reply-due =
     c.put_reply.ensures
-    ∙ splice-start (reply_of c.count_after-after.result) c.args.reply.now (rw (length_reply c.count_after-after.result) fits.reply)
+    ∙ splice-start (reply_of c.count_after-after.result) c.args.reply.now (rw (length_reply c.count_after-after.result) (fits earlier).reply)
     ∙ ap₂ (λ (m n : ℕ). reply_of n ++ drop m c.args.reply.now) (length_reply c.count_after-after.result) count in
     let away = next ∙ c.if-is_next.false in
-    let below = lt-ltb _ _ (rw number at c.if-number-count.true) in
+    let below = lt-ltb _ _ (rw (number past) at c.if-number-count.true) in
     record {
-      answer = rw (taken, away, below);
-      says = rw (taken, away);
-      reply_is = rw taken replied;
-      output = rw (taken, away);
+      answer = rw (taken earlier, away, below);
+      says = rw (taken earlier, away);
+      reply_is = rw (taken earlier) replied;
+      output = rw (taken earlier, away);
     }
 
 pub returns : goal.returns
 unfolding arrived reply_after output_after
 returns c =
-    let number : c.head_of-head.result.number ≡ number_in c.args.received.now =
-    ap (λ (h : Head). h.number) c.head_of-head.ensures in
-    let next : is_next (c.args.far).count (number_in c.args.received.now) ≡ c.is_next.result =
-    ap (is_next (c.args.far).count) (sym number) ∙ sym c.is_next.ensures in
-    let rules : List Refusal =
-    arrival_rules c.args.received.now (length c.args.reply.now) (length c.args.out.now) in
-    let passed : first rules ≡ 0 =
-    sym c.arrival_refusal-n.ensures ∙ c.if-n-ne0.false in
-    let taken : eqb (first rules) 0 ≡ true =
-    eq-eqb _ _ passed in
+    let past = (goal.at.returns c).After-head_of-head in
+    let earlier = (goal.at.returns c).Else-n-ne0 in
+    let next : is_next c.args.far.count (number_in c.args.received.now) ≡ c.is_next.result =
+    ap (is_next c.args.far.count) (sym (number past)) ∙ sym c.is_next.ensures in
     let reply-due : List ℕ =
-    reply_of (count_after (c.args.far).count (number_in c.args.received.now)) ++ drop head_size c.args.reply.now in
-    let fits : ArrivalFits c.args.received.now (length c.args.reply.now) (length c.args.out.now) =
-    arrival_fits _ _ _ passed in
-    let count : c.count_after-after.result ≡ count_after (c.args.far).count (number_in c.args.received.now) =
-    c.count_after-after.ensures ∙ ap (count_after (c.args.far).count) number in
+    reply_of (count_after c.args.far.count (number_in c.args.received.now)) ++ drop head_size c.args.reply.now in
+    let count : c.count_after-after.result ≡ count_after c.args.far.count (number_in c.args.received.now) =
+    c.count_after-after.ensures ∙ ap (count_after c.args.far.count) (number past) in
     let replied : c.put_reply.new.reply ≡ reply-due =
     c.put_reply.ensures
-    ∙ splice-start (reply_of c.count_after-after.result) c.args.reply.now (rw (length_reply c.count_after-after.result) fits.reply)
+    ∙ splice-start (reply_of c.count_after-after.result) c.args.reply.now (rw (length_reply c.count_after-after.result) (fits earlier).reply)
     ∙ ap₂ (λ (m n : ℕ). reply_of n ++ drop m c.args.reply.now) (length_reply c.count_after-after.result) count in
     let away = next ∙ c.if-is_next.false in
-    let above = le-ltb _ _ (rw number at c.if-number-count.false) in
+    let above = le-ltb _ _ (rw (number past) at c.if-number-count.false) in
     record {
-      answer = rw (taken, away, above);
-      says = rw (taken, away);
-      reply_is = rw taken replied;
-      output = rw (taken, away);
+      answer = rw (taken earlier, away, above);
+      says = rw (taken earlier, away);
+      reply_is = rw (taken earlier) replied;
+      output = rw (taken earlier, away);
     }

@@ -9,6 +9,11 @@ use Rattle.trunk.specs.Bundle.{bundle_stop, bundle}
 use Rattle.trunk.specs.Near.{offer_rules_of, offer_rules}
 use Rattle.trunk.proofs.EndLaws.{OfferFits, offer-fits}
 use Rattle.trunk.proofs.near_end.offer.Goals as goal
+use Rattle.trunk.proofs.near_end.offer.Goals.{After-struct_known-1}
+
+-- how many PDUs there are
+pdus-are : (c : After-struct_known-1) → c.bundle_of-walk.result.pdus ≡ length (bundle c.args.datagram.now)
+pdus-are c = c.bundle_of-walk.ensures.1
 
 pub put_bundle-requires : goal.put_bundle-requires
 put_bundle-requires c =
@@ -32,7 +37,7 @@ overflow_cast-result c =
     sym refusal ∙ c.if-n-ne0.false in
     let fits : OfferFits c.args.near (length c.args.store.now) (bundle_stop c.args.datagram.now) (length (bundle c.args.datagram.now)) =
     offer-fits _ _ _ _ passed in
-    omega (arith, c.bundle_of-walk.ensures.1, fits.few)
+    omega (arith, pdus-are c, fits.few)
 
 pub overflow_add-result : goal.overflow_add-result
 overflow_add-result c =
@@ -44,4 +49,4 @@ overflow_add-result c =
     sym refusal ∙ c.if-n-ne0.false in
     let fits : OfferFits c.args.near (length c.args.store.now) (bundle_stop c.args.datagram.now) (length (bundle c.args.datagram.now)) =
     offer-fits _ _ _ _ passed in
-    omega (arith, c.bundle_of-walk.ensures.1, fits.numbers)
+    omega (arith, pdus-are c, fits.numbers)

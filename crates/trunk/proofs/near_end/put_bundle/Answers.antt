@@ -12,6 +12,22 @@ use Rattle.trunk.specs.Near.{stored, stored_all}
 use Rattle.trunk.proofs.BundleLaws.{offered-zero, Passes, passing, first-stored}
 use Rattle.trunk.proofs.WalkLaws.{rest_part, Onward, onward, goes_from, ended}
 use Rattle.trunk.proofs.near_end.put_bundle.Goals as goal
+use Rattle.trunk.proofs.near_end.put_bundle.Goals.{After-slice_known-in-loop-from-1}
+
+-- how far it goes, and what it leaves in the store
+far : (c : After-slice_known-in-loop-from-1) → c.put_first-from.result ≡ used (drop c.loop-from.from c.args.datagram.now)
+far c = c.put_first-from.ensures.0 ∙ ap used (rest_part c.loop-from.from c.args.datagram.now)
+
+leaves : (c : After-slice_known-in-loop-from-1) → c.put_first-from.new.store ≡ stored c.loop-from.next c.loop-from.store (first_pdu (drop c.loop-from.from c.args.datagram.now))
+leaves c =
+    let goes : stop_of (reading (drop c.loop-from.from c.args.datagram.now)) ≡ 0 =
+    goes_from _ _ c.loop-from-test.true c.loop-from.invariant.none in
+    let passes : Passes (drop c.loop-from.from c.args.datagram.now) =
+    passing _ goes in
+    let l = c.loop-from in
+    c.put_first-from.ensures.1
+    ∙ ap (stored l.next l.store) (rest_part l.from c.args.datagram.now)
+    ∙ first-stored l.next l.store (drop c.loop-from.from c.args.datagram.now) passes.taken
 
 pub loop-from-init : goal.loop-from-init
 loop-from-init c = record { inside = omega arith; none = offered-zero _ c.requires.1; whole = refl; numbers = c.requires.2; same = refl }
@@ -34,13 +50,11 @@ pub overflow_add-from : goal.overflow_add-from
 overflow_add-from c =
     let R : List ℕ =
     drop c.loop-from.from c.args.datagram.now in
-    let far : c.put_first-from.result ≡ used R =
-    c.put_first-from.ensures.0 ∙ ap used (rest_part c.loop-from.from c.args.datagram.now) in
     let goes : stop_of (reading R) ≡ 0 =
     goes_from _ _ c.loop-from-test.true c.loop-from.invariant.none in
     let on : Onward c.loop-from.from c.args.datagram.now =
     onward _ _ c.loop-from-test.true goes in
-    omega (arith, far, on.inside)
+    omega (arith, far c, on.inside)
 
 pub overflow_add-next : goal.overflow_add-next
 overflow_add-next c =
@@ -56,13 +70,11 @@ pub loop-from-smaller : goal.loop-from-smaller
 loop-from-smaller c =
     let R : List ℕ =
     drop c.loop-from.from c.args.datagram.now in
-    let far : c.put_first-from.result ≡ used R =
-    c.put_first-from.ensures.0 ∙ ap used (rest_part c.loop-from.from c.args.datagram.now) in
     let goes : stop_of (reading R) ≡ 0 =
     goes_from _ _ c.loop-from-test.true c.loop-from.invariant.none in
     let on : Onward c.loop-from.from c.args.datagram.now =
     onward _ _ c.loop-from-test.true goes in
-    omega (arith, far, on.inside, on.some)
+    omega (arith, far c, on.inside, on.some)
 
 pub loop-from-preserved : goal.loop-from-preserved
 unfolding stored_all
@@ -73,26 +85,17 @@ loop-from-preserved c =
     goes_from _ _ c.loop-from-test.true c.loop-from.invariant.none in
     let on : Onward c.loop-from.from c.args.datagram.now =
     onward _ _ c.loop-from-test.true goes in
-    let far : c.put_first-from.result ≡ used R =
-    c.put_first-from.ensures.0 ∙ ap used (rest_part c.loop-from.from c.args.datagram.now) in
-    let passes : Passes R =
-    passing _ goes in
-    let leaves : c.put_first-from.new.store ≡ stored c.loop-from.next c.loop-from.store (first_pdu R) =
-    let l = c.loop-from in
-    c.put_first-from.ensures.1
-    ∙ ap (stored l.next l.store) (rest_part l.from c.args.datagram.now)
-    ∙ first-stored l.next l.store R passes.taken in
     let l = c.loop-from in
     let d : List ℕ = c.args.datagram.now in
     let o = on in
-    let next : l.from + c.put_first-from.result ≡ l.from + used (drop l.from d) = ap (λ (n : ℕ). l.from + n) far in
+    let next : l.from + c.put_first-from.result ≡ l.from + used (drop l.from d) = ap (λ (n : ℕ). l.from + n) (far c) in
     record {
-      inside = omega (arith, far, o.inside);
+      inside = omega (arith, far c, o.inside);
       none = ap (λ (n : ℕ). slice_stop (drop n d)) next ∙ sym o.stop ∙ l.invariant.none;
       whole = c.put_first-from.auto.store ∙ l.invariant.whole;
       numbers = omega (arith, l.invariant.numbers, ap length o.pdus, ap (λ (n : ℕ). length (bundle (drop n d))) next);
       same =
-          ap₂ (λ (s : List ℕ) (n : ℕ). stored_all (l.next + 1) s (bundle (drop n d))) leaves next
+          ap₂ (λ (s : List ℕ) (n : ℕ). stored_all (l.next + 1) s (bundle (drop n d))) (leaves c) next
           ∙ ap (stored_all l.next l.store) (sym o.pdus)
           ∙ l.invariant.same;
     }

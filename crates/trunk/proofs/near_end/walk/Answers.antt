@@ -10,6 +10,22 @@ use Rattle.pdu.specs.Reading.{reading, used}
 use Rattle.trunk.specs.Bundle.{stop_of, slice_stop, bundle}
 use Rattle.trunk.proofs.WalkLaws.{rest_part, Onward, onward, halted, ended}
 use Rattle.trunk.proofs.near_end.walk.Goals as goal
+use Rattle.trunk.proofs.near_end.walk.Goals.{After-size, Else-stop-ne0}
+
+-- one PDU further, and by how many bytes
+on : (c : Else-stop-ne0) → Onward c.loop-at.at c.args.datagram.now
+on c =
+    let read_is : c.read-answer.result ≡ reading (drop c.loop-at.at c.args.datagram.now) =
+    c.read-answer.ensures.answer ∙ ap reading (rest_part c.loop-at.at c.args.datagram.now) in
+    let stop_is : c.stop_of-stop.result ≡ stop_of (reading (drop c.loop-at.at c.args.datagram.now)) =
+    c.stop_of-stop.ensures ∙ ap stop_of read_is in
+    onward _ _ c.loop-at-test.true (sym stop_is ∙ c.if-stop-ne0.false)
+
+size_is : (c : After-size) → c.size.result ≡ used (drop c.loop-at.at c.args.datagram.now)
+size_is c =
+    let read_is : c.read-answer.result ≡ reading (drop c.loop-at.at c.args.datagram.now) =
+    c.read-answer.ensures.answer ∙ ap reading (rest_part c.loop-at.at c.args.datagram.now) in
+    c.size.ensures ∙ ap size_of read_is
 
 pub returns-then-stop-ne0 : goal.returns-then-stop-ne0
 returns-then-stop-ne0 c =
@@ -27,36 +43,18 @@ returns-then-stop-ne0 c =
 
 pub loop-at-smaller : goal.loop-at-smaller
 loop-at-smaller c =
-    let R : List ℕ =
-    drop c.loop-at.at c.args.datagram.now in
-    let read_is : c.read-answer.result ≡ reading R =
-    c.read-answer.ensures.answer ∙ ap reading (rest_part c.loop-at.at c.args.datagram.now) in
-    let size_is : c.size.result ≡ used R =
-    c.size.ensures ∙ ap size_of read_is in
-    let stop_is : c.stop_of-stop.result ≡ stop_of (reading R) =
-    c.stop_of-stop.ensures ∙ ap stop_of read_is in
-    let on : Onward c.loop-at.at c.args.datagram.now =
-    onward _ _ c.loop-at-test.true (sym stop_is ∙ c.if-stop-ne0.false) in
-    omega (arith, size_is, on.inside, on.some)
+    let past = (goal.at.loop-at-smaller c).Else-stop-ne0 in
+    omega (arith, size_is c, (on past).inside, (on past).some)
 
 pub loop-at-preserved : goal.loop-at-preserved
 loop-at-preserved c =
-    let R : List ℕ =
-    drop c.loop-at.at c.args.datagram.now in
-    let read_is : c.read-answer.result ≡ reading R =
-    c.read-answer.ensures.answer ∙ ap reading (rest_part c.loop-at.at c.args.datagram.now) in
-    let stop_is : c.stop_of-stop.result ≡ stop_of (reading R) =
-    c.stop_of-stop.ensures ∙ ap stop_of read_is in
-    let on : Onward c.loop-at.at c.args.datagram.now =
-    onward _ _ c.loop-at-test.true (sym stop_is ∙ c.if-stop-ne0.false) in
-    let size_is : c.size.result ≡ used R =
-    c.size.ensures ∙ ap size_of read_is in
+    let past = (goal.at.loop-at-preserved c).Else-stop-ne0 in
     let l = c.loop-at in
     let d : List ℕ = c.args.datagram.now in
-    let o = on in
-    let next : l.at + used (drop l.at d) ≡ l.at + c.size.result = ap (λ (n : ℕ). l.at + n) (sym size_is) in (
-      omega (arith, size_is, o.inside),
-      omega (arith, size_is, o.some),
+    let o = on past in
+    let next : l.at + used (drop l.at d) ≡ l.at + c.size.result = ap (λ (n : ℕ). l.at + n) (sym (size_is c)) in (
+      omega (arith, size_is c, o.inside),
+      omega (arith, size_is c, o.some),
       l.invariant.2 ∙ o.stop ∙ ap (λ (n : ℕ). slice_stop (drop n d)) next,
       omega (arith, l.invariant.3, ap length o.pdus, ap (λ (n : ℕ). length (bundle (drop n d))) next),
     )

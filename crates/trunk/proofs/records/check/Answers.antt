@@ -13,38 +13,34 @@ use Rattle.trunk.specs.declared.Head.{Head}
 use Rattle.trunk.proofs.RuleLaws.{reply_kind_lem}
 use Rattle.trunk.proofs.EndLaws.{Formed, checked_form}
 use Rattle.trunk.proofs.records.check.Goals as goal
+use Rattle.trunk.proofs.records.check.Goals.{Else-n-ne0}
+
+passed : (c : Else-n-ne0) → first (check_rules c.args.received.now) ≡ 0
+passed c = sym c.check_refusal-n.ensures ∙ c.if-n-ne0.false
+
+taken : (c : Else-n-ne0) → eqb (first (check_rules c.args.received.now)) 0 ≡ true
+taken c = eq-eqb _ _ (passed c)
+
+form : (c : Else-n-ne0) → Formed c.args.received.now
+form c = checked_form c.args.received.now (passed c)
 
 pub head_of-head-requires : goal.head_of-head-requires
-head_of-head-requires c =
-    let passed : first (check_rules c.args.received.now) ≡ 0 =
-    sym c.check_refusal-n.ensures ∙ c.if-n-ne0.false in
-    let form : Formed c.args.received.now =
-    checked_form c.args.received.now passed in
-    form.head
+head_of-head-requires c = (form c).head
 
 pub overflow_cast-size : goal.overflow_cast-size
 overflow_cast-size c =
-    let passed : first (check_rules c.args.received.now) ≡ 0 =
-    sym c.check_refusal-n.ensures ∙ c.if-n-ne0.false in
-    let form : Formed c.args.received.now =
-    checked_form c.args.received.now passed in
-    omega (arith, form.short)
+    let past = (goal.at.overflow_cast-size c).Else-n-ne0 in
+    omega (arith, (form past).short)
 
 pub is_reply-requires : goal.is_reply-requires
 is_reply-requires c =
-    let passed : first (check_rules c.args.received.now) ≡ 0 =
-    sym c.check_refusal-n.ensures ∙ c.if-n-ne0.false in
-    let form : Formed c.args.received.now =
-    checked_form c.args.received.now passed in
-    form.head
+    let past = (goal.at.is_reply-requires c).Else-n-ne0 in
+    (form past).head
 
 pub returns-then-is_reply-clause-says : goal.returns-then-is_reply-clause-says
 unfolding checked
 returns-then-is_reply-clause-says c =
-    let passed : first (check_rules c.args.received.now) ≡ 0 =
-    sym c.check_refusal-n.ensures ∙ c.if-n-ne0.false in
-    let taken : eqb (first (check_rules c.args.received.now)) 0 ≡ true =
-    eq-eqb _ _ passed in
+    let past = (goal.at.returns-then-is_reply-clause-says c).Else-n-ne0 in
     let r = c.args.received.now in
     let reply : is_reply r ≡ true = sym c.is_reply.ensures ∙ c.if-is_reply.true in
-    let kind = reply_kind_lem r reply in rw taken (ap₂ (λ (h : Head) (k : ℕ). 0 ∷ k ∷ h.number ∷ length r ∷ []) c.head_of-head.ensures (sym kind))
+    let kind = reply_kind_lem r reply in rw (taken past) (ap₂ (λ (h : Head) (k : ℕ). 0 ∷ k ∷ h.number ∷ length r ∷ []) c.head_of-head.ensures (sym kind))

@@ -4,6 +4,10 @@ use Rattle.wire.specs.First.{first}
 use Rattle.trunk.specs.Record.{form_rules}
 use Rattle.trunk.proofs.EndLaws.{form_first, form_next, formed}
 use Rattle.trunk.proofs.records.check_refusal.Goals as goal
+use Rattle.trunk.proofs.records.check_refusal.Goals.{Else-n-ne0}
+
+passed : (c : Else-n-ne0) → first (form_rules c.args.r.now) ≡ 0
+passed c = sym c.form_refusal-n.ensures ∙ c.if-n-ne0.false
 
 pub returns-then-n-ne0 : goal.returns-then-n-ne0
 returns-then-n-ne0 c =
@@ -11,13 +15,9 @@ returns-then-n-ne0 c =
     form ∙ sym (form_first c.args.r.now _ (λ e. c.if-n-ne0.true (form ∙ e)))
 
 pub pdu_refusal-requires : goal.pdu_refusal-requires
-pdu_refusal-requires c =
-    let passed : first (form_rules c.args.r.now) ≡ 0 =
-    sym c.form_refusal-n.ensures ∙ c.if-n-ne0.false in
-    (formed c.args.r.now passed).head
+pdu_refusal-requires c = (formed c.args.r.now (passed c)).head
 
 pub returns : goal.returns
 returns c =
-    let passed : first (form_rules c.args.r.now) ≡ 0 =
-    sym c.form_refusal-n.ensures ∙ c.if-n-ne0.false in
-    c.pdu_refusal.ensures ∙ sym (form_next c.args.r.now _ passed)
+    let past = (goal.at.returns c).Else-n-ne0 in
+    c.pdu_refusal.ensures ∙ sym (form_next c.args.r.now _ (passed past))

@@ -8,6 +8,15 @@ use Rattle.trunk.specs.Kinds.{load, is_unknown, record_size}
 use Rattle.trunk.specs.Record.{kind_in, unknown_kind, wrong_size, form_rules}
 use Rattle.trunk.proofs.EndLaws.{empty_kind, present_kind, never_empty}
 use Rattle.trunk.proofs.records.form_refusal.Goals as goal
+use Rattle.trunk.proofs.records.form_refusal.Goals.{Else-is_unknown}
+
+known : (c : Else-is_unknown) → unknown_kind c.args.r.now ≡ false
+known c =
+    let tested : c.is_unknown.result ≡ unknown_kind c.args.r.now =
+    c.is_unknown.ensures
+    ∙ ap is_unknown (c.load.ensures ∙ ap load c.kind_at-kind.ensures)
+    ∙ sym (present_kind c.args.r.now (omega arith)) in
+    sym tested ∙ c.if-is_unknown.false
 
 pub returns-then-r-eq0 : goal.returns-then-r-eq0
 unfolding form_rules
@@ -27,26 +36,16 @@ returns-then-is_unknown c =
 pub returns-then-r-record_size : goal.returns-then-r-record_size
 unfolding form_rules wrong_size
 returns-then-r-record_size c =
-    let tested : c.is_unknown.result ≡ unknown_kind c.args.r.now =
-    c.is_unknown.ensures
-    ∙ ap is_unknown (c.load.ensures ∙ ap load c.kind_at-kind.ensures)
-    ∙ sym (present_kind c.args.r.now (omega arith)) in
-    let known : unknown_kind c.args.r.now ≡ false =
-    sym tested ∙ c.if-is_unknown.false in
+    let past = (goal.at.returns-then-r-record_size c).Else-is_unknown in
     let size : c.record_size.result ≡ record_size (kind_in c.args.r.now) =
     c.record_size.ensures.0 ∙ ap record_size c.kind_at-kind.ensures in
     let right = record_size (kind_in c.args.r.now) in
-    rw (known, ap not (ne_eqb _ right (λ e. c.if-r-record_size.true (e ∙ sym size))))
+    rw (known past, ap not (ne_eqb _ right (λ e. c.if-r-record_size.true (e ∙ sym size))))
 
 pub returns : goal.returns
 unfolding form_rules wrong_size
 returns c =
-    let tested : c.is_unknown.result ≡ unknown_kind c.args.r.now =
-    c.is_unknown.ensures
-    ∙ ap is_unknown (c.load.ensures ∙ ap load c.kind_at-kind.ensures)
-    ∙ sym (present_kind c.args.r.now (omega arith)) in
-    let known : unknown_kind c.args.r.now ≡ false =
-    sym tested ∙ c.if-is_unknown.false in
+    let past = (goal.at.returns c).Else-is_unknown in
     let size : c.record_size.result ≡ record_size (kind_in c.args.r.now) =
     c.record_size.ensures.0 ∙ ap record_size c.kind_at-kind.ensures in
-    rw (known, ap not (eq-eqb _ _ (c.if-r-record_size.false ∙ size)))
+    rw (known past, ap not (eq-eqb _ _ (c.if-r-record_size.false ∙ size)))

@@ -8,6 +8,16 @@ use Rattle.trunk.specs.Near.{reply_rules}
 use Rattle.trunk.specs.declared.Head.{Head}
 use Rattle.trunk.proofs.EndLaws.{form_first, form_next, formed}
 use Rattle.trunk.proofs.records.reply_refusal.Goals as goal
+use Rattle.trunk.proofs.records.reply_refusal.Goals.{Else-n-ne0, Else-no}
+
+passed : (c : Else-n-ne0) → first (form_rules c.args.r.now) ≡ 0
+passed c = sym c.form_refusal-n.ensures ∙ c.if-n-ne0.false
+
+is-reply : (c : Else-no) → not (is_reply c.args.r.now) ≡ false
+is-reply c =
+    let tested : c.no.result ≡ not (is_reply c.args.r.now) =
+    c.no.ensures ∙ ap not c.is_reply.ensures in
+    sym tested ∙ c.if-no.false
 
 pub returns-then-n-ne0 : goal.returns-then-n-ne0
 unfolding reply_rules
@@ -16,50 +26,37 @@ returns-then-n-ne0 c =
     form ∙ sym (form_first c.args.r.now _ (λ e. c.if-n-ne0.true (form ∙ e)))
 
 pub is_reply-requires : goal.is_reply-requires
-is_reply-requires c =
-    let passed : first (form_rules c.args.r.now) ≡ 0 =
-    sym c.form_refusal-n.ensures ∙ c.if-n-ne0.false in
-    (formed c.args.r.now passed).head
+is_reply-requires c = (formed c.args.r.now (passed c)).head
 
 pub returns-then-no : goal.returns-then-no
 unfolding reply_rules
 returns-then-no c =
-    let passed : first (form_rules c.args.r.now) ≡ 0 =
-    sym c.form_refusal-n.ensures ∙ c.if-n-ne0.false in
+    let past = (goal.at.returns-then-no c).Else-n-ne0 in
     let tested : c.no.result ≡ not (is_reply c.args.r.now) =
     c.no.ensures ∙ ap not c.is_reply.ensures in
-    sym (form_next c.args.r.now _ passed ∙ rw (sym tested ∙ c.if-no.true))
+    sym (form_next c.args.r.now _ (passed past) ∙ rw (sym tested ∙ c.if-no.true))
 
 pub head_of-head-requires : goal.head_of-head-requires
 head_of-head-requires c =
-    let passed : first (form_rules c.args.r.now) ≡ 0 =
-    sym c.form_refusal-n.ensures ∙ c.if-n-ne0.false in
-    (formed c.args.r.now passed).head
+    let past = (goal.at.head_of-head-requires c).Else-n-ne0 in
+    (formed c.args.r.now (passed past)).head
 
 pub returns-then-near-head : goal.returns-then-near-head
 unfolding reply_rules
 returns-then-near-head c =
+    let past = (goal.at.returns-then-near-head c).Else-n-ne0 in
+    let earlier = (goal.at.returns-then-near-head c).Else-no in
     let number : c.head_of-head.result.number ≡ number_in c.args.r.now =
     ap (λ (h : Head). h.number) c.head_of-head.ensures in
-    let passed : first (form_rules c.args.r.now) ≡ 0 =
-    sym c.form_refusal-n.ensures ∙ c.if-n-ne0.false in
-    let tested : c.no.result ≡ not (is_reply c.args.r.now) =
-    c.no.ensures ∙ ap not c.is_reply.ensures in
-    let is-reply : not (is_reply c.args.r.now) ≡ false =
-    sym tested ∙ c.if-no.false in
     let above = lt-ltb _ _ (rw number at c.if-near-head.true) in
-    sym (form_next c.args.r.now _ passed ∙ rw (is-reply, above))
+    sym (form_next c.args.r.now _ (passed past) ∙ rw (is-reply earlier, above))
 
 pub returns : goal.returns
 unfolding reply_rules
 returns c =
+    let past = (goal.at.returns c).Else-n-ne0 in
+    let earlier = (goal.at.returns c).Else-no in
     let number : c.head_of-head.result.number ≡ number_in c.args.r.now =
     ap (λ (h : Head). h.number) c.head_of-head.ensures in
-    let passed : first (form_rules c.args.r.now) ≡ 0 =
-    sym c.form_refusal-n.ensures ∙ c.if-n-ne0.false in
-    let tested : c.no.result ≡ not (is_reply c.args.r.now) =
-    c.no.ensures ∙ ap not c.is_reply.ensures in
-    let is-reply : not (is_reply c.args.r.now) ≡ false =
-    sym tested ∙ c.if-no.false in
     let below = le-ltb _ _ (rw number at c.if-near-head.false) in
-    sym (form_next c.args.r.now _ passed ∙ rw (is-reply, below))
+    sym (form_next c.args.r.now _ (passed past) ∙ rw (is-reply earlier, below))
