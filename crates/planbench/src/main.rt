@@ -104,7 +104,7 @@ fn run(planning: bool, times: u64, rates: &mut [u8], plan: &mut [u8]) -> u64 {
 
 fn main(rt: HostRuntime) {
     let mut input = [0u8; 4096];
-    let n = plantext::read_full(&rt, &mut input);
+    let n = text::lines::read_full(&rt, &mut input);
     let times = times_in(&input[..n]);
     let mut rates = [0u8; RATES];
     let mut plan = [0u8; PLAN];

@@ -65,7 +65,7 @@ fn main(rt: HostRuntime) {
     let mut rates = [0u8; 4096];
     let mut plan = [0u8; 4096];
     match plantext::read_text(&rt, &mut lines) {
-        Came::Failed(error) => show::failed(&rt, "standard input", error),
+        Came::Failed(error) => text::show::failed(&rt, "standard input", error),
         Came::Text(n) => answer(&rt, &lines, n, true, &mut rates, &mut plan),
         Came::Start(n) => answer(&rt, &lines, n, false, &mut rates, &mut plan),
     }

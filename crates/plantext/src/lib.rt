@@ -4,11 +4,10 @@
 pub mod scan;
 pub mod show;
 
-ghost use Rattle.std.specs.Prelude.{◌≤◌, length};
-
 use scan::{Found, Scan};
 use std::io;
 use std::io::Read;
+use text::lines;
 
 // Which lines may come: rates alone; rates and then a dash; blocks behind the dash.
 pub const RATES: u8 = 0;
@@ -35,24 +34,9 @@ pub enum Came {
     Failed(io::Error),
 }
 
-// Reads until `buf` is full, the input ends or a read fails: how many bytes are at the start of `buf`.
-pub fn read_full(rt: &HostRuntime, buf: &mut [u8]) -> usize
-    ensures { result ≤ length buf.new }
-{
-    let mut done = 0;
-    while done < buf.len() {
-        match rt.stdin().read(&mut buf[done..]) {
-            Ok(0) => break,
-            Ok(n) => done += n,
-            Err(_) => break,
-        }
-    }
-    done
-}
-
 // Reads standard input up to its end, or until `text` is full.
 pub fn read_text(rt: &HostRuntime, text: &mut [u8]) -> Came {
-    let n = read_full(rt, text);
+    let n = lines::read_full(rt, text);
     let mut more = [0u8; 1];
     match rt.stdin().read(&mut more) {
         Ok(0) => Came::Text(n),

@@ -1,9 +1,0 @@
--- What was read is at most what there is room for.
-use Rattle.std.proofs.Common.{length, ◌-◌, ◌≤◌}
-use Rattle.plantext.proofs.read_full.Given as goal
-
-abbrev pub invariant-loop-done : goal.invariant-loop-done
-invariant-loop-done l = l.done ≤ length l.buf
-
-abbrev pub decreases-loop-done : goal.decreases-loop-done
-decreases-loop-done l = length l.initial.buf - l.done
