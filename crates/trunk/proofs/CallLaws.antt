@@ -11,6 +11,7 @@ use lib.ListN.{length, drop}
 use lib.Dec.{eqb, ltb}
 use native.Mathlib.Omega.{arith}
 use borrow.Author.Tests.{eqb-true, eqb-false, ltb-true, ltb-false}
+use Rattle.std.proofs.lemmas.Bool.Decides.{nat_tests}
 use Rattle.wire.specs.Bytes.{Bytes}
 use Rattle.wire.specs.First.{first}
 use Rattle.wire.specs.Rules.{Met, FirstBroken}
@@ -127,7 +128,7 @@ reply_outcome near r = by (eqb (first (reply_rules near r)) 0) refl
 -- the next number is k, and no other is
 next_number : (k number : ℕ) → is_next k number ≡ true → number ≡ k
 unfolding is_next
-next_number k number e = eqb-true number k e
+next_number k number e = grind (arith, nat_tests)
 
 other-number : (k number : ℕ) → is_next k number ≡ false → number ≢ k
 unfolding is_next
