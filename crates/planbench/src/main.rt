@@ -103,7 +103,7 @@ fn run(planning: bool, times: u64, rates: &mut [u8], plan: &mut [u8]) -> u64 {
 }
 
 fn main(rt: HostRuntime) {
-    let mut input = [0u8; 4096];
+    let mut input = [0u8; text::ROOM];
     let n = text::lines::read_full(&rt, &mut input);
     let times = times_in(&input[..n]);
     let mut rates = [0u8; RATES];

@@ -43,9 +43,9 @@ fn answer(rt: &HostRuntime, text: &[u8], n: usize, whole: bool, rates: &mut [u8]
 }
 
 fn main(rt: HostRuntime) {
-    let mut lines = [0u8; 65536];
-    let mut rates = [0u8; 4096];
-    let mut plan = [0u8; 4096];
+    let mut lines = [0u8; text::lines::INPUT];
+    let mut rates = [0u8; text::ROOM];
+    let mut plan = [0u8; text::ROOM];
     match plantext::read_text(&rt, &mut lines) {
         Came::Failed(error) => text::show::failed(&rt, "standard input", error),
         Came::Text(n) => answer(&rt, &lines, n, true, &mut rates, &mut plan),

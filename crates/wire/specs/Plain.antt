@@ -1,5 +1,5 @@
 -- Numbers, splices, refusals in order and tables once more in literal numbers, at byte places: the plain twins of Bytes, First and Table.
--- Each is proved in proofs/PlainLaws under its own name in small letters: Numbers by numbers, ZeroTest by zero-test, and so on.
+-- Each is proved in proofs/PlainLaws under its own name in small letters: Numbers by numbers, ZeroTest by zero_test, and so on.
 use Rattle.std.specs.Prelude.{ℕ, ◌+◌, ◌*◌, ◌/◌, ◌%◌, ◌≤◌, ◌<◌, ◌≡◌, true, false, ◌↔◌, ◌≢◌, List, [], ◌∷◌, ◌++◌, length, get_or}
 use Rattle.wire.specs.Bytes.{num, big, row, splice, all_zero}
 use Rattle.wire.specs.First.{Refusal, ◌given_when◌, first, numbered, without, told}

@@ -31,4 +31,4 @@ returns-clause-output c =
     let fits : length (bytes_of form c.args.body.now) ≤ length c.args.out.now =
     omega (arith, length_form form c.args.body.now, writes_room form (length c.args.out.now) none) in
     let yes = eq-eqb _ _ none in
-    let size = c.signal_size.ensures in rw yes (c.put.ensures ∙ splice-start (bytes_of form c.args.body.now) c.args.out.now fits)
+    rw yes (c.put.ensures ∙ splice-start (bytes_of form c.args.body.now) c.args.out.now fits)

@@ -13,7 +13,7 @@ use Rattle.pdu.proofs.ReadLaws.{form_here, form_next, not_written, written-blank
 use Rattle.reader.proofs.signal.is_written.Goals as goal
 use Rattle.reader.proofs.signal.is_written.Goals.{Else-layout_refusal-ne0}
 
--- the form; and past the layout's rules: the datagram, and that none is broken
+-- what is read, as a form
 abbrev form : List ℕ → Reading
 form d = a_signal (signal_of d) (body_size d)
 
@@ -43,5 +43,5 @@ returns c =
     let size-read : c.signal_size.result ≡ signal_size (body_size c.args.d.now) =
     c.signal_size.ensures ∙ ap signal_size c.body_size.ensures in
     let d = c.args.d.now in
-    let none = (next past) ∙ sym c.inner_refusal.ensures ∙ c.if-inner_refusal-ne0.false in
+    let none = next past ∙ sym c.inner_refusal.ensures ∙ c.if-inner_refusal-ne0.false in
     c.is_blank.ensures ∙ sym (written-blank (form d) d none (c.if-d-signal_size.false ∙ size-read))

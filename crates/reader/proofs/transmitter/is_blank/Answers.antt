@@ -57,7 +57,7 @@ returns c =
       c.both-late.ensures,
       c.u24_at.ensures,
       c.u16_at.ensures,
-      ← (late start),
+      ← late start,
     )
     (sym
     (blank-append (header_table seven Numbers.transmitter_type Numbers.transmitter_size)

@@ -14,7 +14,7 @@ use Rattle.pdu.proofs.ReadLaws.{transmitter_laid, form_here, form_next, not_writ
 use Rattle.reader.proofs.transmitter.is_written.Goals as goal
 use Rattle.reader.proofs.transmitter.is_written.Goals.{Else-layout_refusal-ne0}
 
--- the form; and past the layout's rules: the datagram, and that none is broken
+-- what is read, as a form
 abbrev form : List ℕ → Reading
 form d = a_transmitter (transmitter_of d)
 

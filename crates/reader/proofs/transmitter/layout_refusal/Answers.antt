@@ -19,7 +19,7 @@ long : (c : Else-wrong_length) → Numbers.transmitter_least ≤ length c.args.d
 long c = right-length _ c.args.d.now (length-right c)
 
 pub wrong_fixed-requires : goal.wrong_fixed-requires
-wrong_fixed-requires c = (long c)
+wrong_fixed-requires c = long c
 
 pub u8_at-requires : goal.u8_at-requires
 u8_at-requires c =
@@ -29,4 +29,4 @@ u8_at-requires c =
 pub wrong_records-requires : goal.wrong_records-requires
 wrong_records-requires c =
     let past = (goal.at.wrong_records-requires c).Else-wrong_length in
-    (long past)
+    long past

@@ -9,7 +9,7 @@ use Rattle.station.proofs.hear_transmitter.enter_unit.Goals as goal
 
 pub with_place-used-requires : goal.with_place-used-requires
 with_place-used-requires c =
-    let word = (c.args.p).used in
+    let word = c.args.p.used in
     let same = c.free_place-i.ensures in
     let low = subst (λ (n : ℕ). n < places) same c.if-i-ge-PLACES.false in
     (c.if-i-ge-PLACES.false, subst (λ (n : ℕ). held word n ≡ false) (sym same) (lowest_is_free word low))

@@ -3,7 +3,7 @@
 use Prim.Native.Nat.{ℕ, ◌≤◌}
 use mathlib.Core.List.{List, [], ◌∷◌, ◌++◌}
 use mathlib.Core.Path.{◌≡◌, sym, ap, ap₂, ◌∙◌}
-use mathlib.Core.Bool.{true}
+use mathlib.Core.Bool.{Bool, true}
 use lib.Dec.{eqb}
 use lib.ListN.{length, drop, length-take, length-drop}
 use native.Mathlib.Omega.{arith}
@@ -24,18 +24,35 @@ use Rattle.trunk.proofs.far_end.arrive.Goals as goal
 use Rattle.trunk.proofs.far_end.arrive.Goals.{After-head_of-head, Else-n-ne0}
 
 -- where there is no refusal: the test of the definition, and what the rules say
-passed : (c : Else-n-ne0) → first ((arrival_rules c.args.received.now (length c.args.reply.now) (length c.args.out.now))) ≡ 0
+passed : (c : Else-n-ne0) → first (arrival_rules c.args.received.now (length c.args.reply.now) (length c.args.out.now)) ≡ 0
 passed c = sym c.arrival_refusal-n.ensures ∙ c.if-n-ne0.false
 
-taken : (c : Else-n-ne0) → eqb (first ((arrival_rules c.args.received.now (length c.args.reply.now) (length c.args.out.now)))) 0 ≡ true
+taken : (c : Else-n-ne0) → eqb (first (arrival_rules c.args.received.now (length c.args.reply.now) (length c.args.out.now))) 0 ≡ true
 taken c = eq-eqb _ _ (passed c)
 
 fits : (c : Else-n-ne0) → ArrivalFits c.args.received.now (length c.args.reply.now) (length c.args.out.now)
 fits c = arrival_fits _ _ _ (passed c)
 
--- the number read, the count after the record, and the reply with it
+-- the number that was read is the record's; so are whether it is next, and the count after it
 number : (c : After-head_of-head) → c.head_of-head.result.number ≡ number_in c.args.received.now
 number c = ap (λ (h : Head). h.number) c.head_of-head.ensures
+
+next : (k n m : ℕ) (b : Bool) → n ≡ m → b ≡ is_next k n → is_next k m ≡ b
+next k n m b e said = ap (is_next k) (sym e) ∙ sym said
+
+counted : (k n m after : ℕ) → n ≡ m → after ≡ count_after k n → after ≡ count_after k m
+counted k n m after e said = said ∙ ap (count_after k) e
+
+-- the reply stands at the buffer's start, with what was behind it
+replied : (after count : ℕ) (buffer written : List ℕ)
+    → head_size ≤ length buffer
+    → after ≡ count
+    → written ≡ splice 0 (reply_of after) buffer
+    → written ≡ reply_of count ++ drop head_size buffer
+replied after count buffer written room same put =
+    put
+    ∙ splice-start (reply_of after) buffer (rw (length_reply after) room)
+    ∙ ap₂ (λ (m n : ℕ). reply_of n ++ drop m buffer) (length_reply after) same
 
 pub head_of-head-requires : goal.head_of-head-requires
 head_of-head-requires c = (fits c).form.head
@@ -70,29 +87,21 @@ deliver-requires c =
 pub returns-then-is_next : goal.returns-then-is_next
 unfolding arrived reply_after output_after
 returns-then-is_next c =
-    let past = (goal.at.returns-then-is_next c).After-head_of-head in
-    let earlier = (goal.at.returns-then-is_next c).Else-n-ne0 in
-    let next : is_next c.args.far.count (number_in c.args.received.now) ≡ c.is_next.result =
-    ap (is_next c.args.far.count) (sym (number past)) ∙ sym c.is_next.ensures in
-    let count : c.count_after-after.result ≡ count_after c.args.far.count (number_in c.args.received.now) =
-    c.count_after-after.ensures ∙ ap (count_after c.args.far.count) (number past) in
-    let reply-due : List ℕ =
-    reply_of (count_after c.args.far.count (number_in c.args.received.now)) ++ drop head_size c.args.reply.now in
-    let replied : c.put_reply.new.reply ≡ reply-due =
-    c.put_reply.ensures
-    ∙ splice-start (reply_of c.count_after-after.result) c.args.reply.now (rw (length_reply c.count_after-after.result) (fits earlier).reply)
-    ∙ ap₂ (λ (m n : ℕ). reply_of n ++ drop m c.args.reply.now) (length_reply c.count_after-after.result) count in
-    let here = next ∙ c.if-is_next.true in
+    let past = (goal.at.returns-then-is_next c).Else-n-ne0 in
+    let read = (goal.at.returns-then-is_next c).After-head_of-head in
+    let count = counted _ _ _ _ (number read) c.count_after-after.ensures in
+    let reply = replied _ _ _ _ (fits past).reply count c.put_reply.ensures in
+    let here = next _ _ _ _ (number read) c.is_next.ensures ∙ c.if-is_next.true in
     let pdu = part_rest head_size c.args.received.now in
     let fit : length (carried_in c.args.received.now) ≤ length c.args.out.now =
-    simp length-drop (omega (arith, (fits earlier).form.short, (fits earlier).output)) in
+    simp length-drop (omega (arith, (fits past).form.short, (fits past).output)) in
     let said : List ℕ → List ℕ = λ p. 0 ∷ length p ∷ (heard c.args.far.station p).answer ∷ [] in
     record {
-      answer = rw (taken earlier, here) (c.deliver.ensures.answer ∙ ap₂ (λ (n : ℕ) (p : List ℕ). delivered n c.args.far.station p) count pdu);
-      says = rw (taken earlier, here) (ap (λ (a : Arrived). arrival_says a.answer) c.deliver.ensures.answer ∙ ap said pdu);
-      reply_is = rw (taken earlier) replied;
+      answer = rw (taken past, here) (c.deliver.ensures.answer ∙ ap₂ (λ (n : ℕ) (p : List ℕ). delivered n c.args.far.station p) count pdu);
+      says = rw (taken past, here) (ap (λ (a : Arrived). arrival_says a.answer) c.deliver.ensures.answer ∙ ap said pdu);
+      reply_is = rw (taken past) reply;
       output =
-          rw (taken earlier, here)
+          rw (taken past, here)
           (c.deliver.ensures.output
           ∙ ap (λ (b : List ℕ). splice 0 b c.args.out.now) pdu
           ∙ splice-start (carried_in c.args.received.now) c.args.out.now fit);
@@ -101,47 +110,29 @@ returns-then-is_next c =
 pub returns-then-number-count : goal.returns-then-number-count
 unfolding arrived reply_after output_after
 returns-then-number-count c =
-    let past = (goal.at.returns-then-number-count c).After-head_of-head in
-    let earlier = (goal.at.returns-then-number-count c).Else-n-ne0 in
-    let next : is_next c.args.far.count (number_in c.args.received.now) ≡ c.is_next.result =
-    ap (is_next c.args.far.count) (sym (number past)) ∙ sym c.is_next.ensures in
-    let reply-due : List ℕ =
-    reply_of (count_after c.args.far.count (number_in c.args.received.now)) ++ drop head_size c.args.reply.now in
-    let count : c.count_after-after.result ≡ count_after c.args.far.count (number_in c.args.received.now) =
-    c.count_after-after.ensures ∙ ap (count_after c.args.far.count) (number past) in
-    let replied : c.put_reply.new.reply ≡ reply-due =
-    c.put_reply.ensures
-    ∙ splice-start (reply_of c.count_after-after.result) c.args.reply.now (rw (length_reply c.count_after-after.result) (fits earlier).reply)
-    ∙ ap₂ (λ (m n : ℕ). reply_of n ++ drop m c.args.reply.now) (length_reply c.count_after-after.result) count in
-    let away = next ∙ c.if-is_next.false in
-    let below = lt-ltb _ _ (rw (number past) at c.if-number-count.true) in
+    let past = (goal.at.returns-then-number-count c).Else-n-ne0 in
+    let read = (goal.at.returns-then-number-count c).After-head_of-head in
+    let count = counted _ _ _ _ (number read) c.count_after-after.ensures in
+    let away = next _ _ _ _ (number read) c.is_next.ensures ∙ c.if-is_next.false in
+    let below = lt-ltb _ _ (rw (number read) at c.if-number-count.true) in
     record {
-      answer = rw (taken earlier, away, below);
-      says = rw (taken earlier, away);
-      reply_is = rw (taken earlier) replied;
-      output = rw (taken earlier, away);
+      answer = rw (taken past, away, below);
+      says = rw (taken past, away);
+      reply_is = rw (taken past) (replied _ _ _ _ (fits past).reply count c.put_reply.ensures);
+      output = rw (taken past, away);
     }
 
 pub returns : goal.returns
 unfolding arrived reply_after output_after
 returns c =
-    let past = (goal.at.returns c).After-head_of-head in
-    let earlier = (goal.at.returns c).Else-n-ne0 in
-    let next : is_next c.args.far.count (number_in c.args.received.now) ≡ c.is_next.result =
-    ap (is_next c.args.far.count) (sym (number past)) ∙ sym c.is_next.ensures in
-    let reply-due : List ℕ =
-    reply_of (count_after c.args.far.count (number_in c.args.received.now)) ++ drop head_size c.args.reply.now in
-    let count : c.count_after-after.result ≡ count_after c.args.far.count (number_in c.args.received.now) =
-    c.count_after-after.ensures ∙ ap (count_after c.args.far.count) (number past) in
-    let replied : c.put_reply.new.reply ≡ reply-due =
-    c.put_reply.ensures
-    ∙ splice-start (reply_of c.count_after-after.result) c.args.reply.now (rw (length_reply c.count_after-after.result) (fits earlier).reply)
-    ∙ ap₂ (λ (m n : ℕ). reply_of n ++ drop m c.args.reply.now) (length_reply c.count_after-after.result) count in
-    let away = next ∙ c.if-is_next.false in
-    let above = le-ltb _ _ (rw (number past) at c.if-number-count.false) in
+    let past = (goal.at.returns c).Else-n-ne0 in
+    let read = (goal.at.returns c).After-head_of-head in
+    let count = counted _ _ _ _ (number read) c.count_after-after.ensures in
+    let away = next _ _ _ _ (number read) c.is_next.ensures ∙ c.if-is_next.false in
+    let above = le-ltb _ _ (rw (number read) at c.if-number-count.false) in
     record {
-      answer = rw (taken earlier, away, above);
-      says = rw (taken earlier, away);
-      reply_is = rw (taken earlier) replied;
-      output = rw (taken earlier, away);
+      answer = rw (taken past, away, above);
+      says = rw (taken past, away);
+      reply_is = rw (taken past) (replied _ _ _ _ (fits past).reply count c.put_reply.ensures);
+      output = rw (taken past, away);
     }
