@@ -107,7 +107,6 @@ pub fn read_archive(datagram: &[u8]) -> Reading
 
 // Whether a datagram is one PDU, taken and already in written form. It does not go by `reading_refusal`, which the compiler inlines where one place
 // alone calls it.
-#[tactic(auto, unfolding(pdu::specs::Writing::in_written_form))]
 pub fn is_written(datagram: &[u8]) -> bool
     ensures { result ≡ in_written_form datagram.now }
 {

@@ -142,7 +142,6 @@ fn is_slot_blank(d: &[u8]) -> bool
 }
 
 // Whether the padding inside the body is zero: round-trip timing alone has any.
-#[tactic(auto, unfolding(pdu::specs::Reading::signal_of))]
 fn is_body_blank(d: &[u8]) -> bool
     requires { (first (signal_layout d.now) ≡ 0) × (first (inner_rules (a_signal (signal_of d.now) (body_size d.now))) ≡ 0) }
     ensures { result ≡ body_blank d.now }
@@ -154,7 +153,6 @@ fn is_body_blank(d: &[u8]) -> bool
 }
 
 // Whether every padding bit of a Signal that breaks no rule and is the whole slice, and its fill, is zero.
-#[tactic(auto, unfolding(pdu::specs::Reading::signal_of))]
 fn is_blank(d: &[u8]) -> bool
     requires { Alone d.now }
     ensures { result ≡ all_blank 0 (table_of (a_signal (signal_of d.now) (body_size d.now))) d.now }

@@ -80,7 +80,6 @@ fn read_sync(d: &[u8]) -> Sync
 }
 
 // The number of the first rule from 4 on that is broken, or 0.
-#[tactic(auto, unfolding(pdu::specs::Rules::inner_rules))]
 pub(crate) fn refusal(d: &[u8]) -> u8
     requires { shortest ≤ length d.now }
     ensures { result ≡ first (form_rules (a_transmitter (transmitter_of d.now)) d.now) }
@@ -167,7 +166,6 @@ fn is_blank(d: &[u8]) -> bool
 
 // Whether no rule from 4 on is broken, nothing stands behind the PDU, and every padding byte is zero. It goes by the parts of `refusal`, so that
 // these are inlined here too.
-#[tactic(auto, unfolding(pdu::specs::Rules::inner_rules, pdu::specs::Reading::transmitter_of))]
 pub(crate) fn is_written(d: &[u8]) -> bool
     requires { shortest ≤ length d.now }
     ensures { result ≡ written_as (a_transmitter (transmitter_of d.now)) d.now }

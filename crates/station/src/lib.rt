@@ -246,7 +246,6 @@ fn outcome_of(part: Part, read: Reading, datagram: &[u8]) -> Outcome
 
 // The station's call on a datagram: the reader's number, 30 to 35, 40 to 44, or 47. The sender is looked for here: to hand the entries to a function
 // would copy them.
-#[tactic(auto, unfolding(crate::specs::Units::place_of))]
 pub fn hear(station: Station, datagram: &[u8]) -> Heard
     ensures { result ≡ heard station datagram.now }
 {
@@ -397,7 +396,6 @@ pub fn units_held(station: Station) -> u32
 }
 
 // What the station knows of a key.
-#[tactic(auto, unfolding(crate::specs::Units::place_of, crate::specs::Units::seen_of))]
 pub fn look(station: Station, key: u64) -> Seen
     ensures { result ≡ seen_of station key }
 {

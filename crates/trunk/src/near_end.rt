@@ -177,7 +177,6 @@ fn put_first(store: &mut [u8], number: u32, datagram: &[u8]) -> usize
 }
 
 // Writes the records of a bundle's PDUs, each into the row of its number, from this number on.
-#[tactic(auto, unfolding(crate::specs::Near::stored_all))]
 fn put_bundle(store: &mut [u8], number: u32, datagram: &[u8])
     requires { (length store.old ≡ store_size) × (bundle_stop datagram.now ≡ 0) × (number + length (bundle datagram.now) ≤ last_number) }
     ensures { store.new ≡ stored_all number store.old (bundle datagram.now) }

@@ -70,7 +70,6 @@ fn wrong_carried(r: &[u8]) -> bool
 }
 
 // The number of the first broken rule on a record's form, or 0.
-#[tactic(auto, unfolding(crate::specs::Record::form_rules, crate::specs::Record::wrong_size))]
 fn form_refusal(r: &[u8]) -> u8
     ensures { result ≡ first (form_rules r.now) }
 {
@@ -118,7 +117,6 @@ fn check_refusal(r: &[u8]) -> u8
 }
 
 // The number of the first broken rule of taking a reply, or 0.
-#[tactic(auto, unfolding(crate::specs::Near::reply_rules))]
 pub(crate) fn reply_refusal(near: Near, r: &[u8]) -> u8
     ensures { result ≡ first (reply_rules near r.now) }
 {
@@ -137,7 +135,6 @@ pub(crate) fn reply_refusal(near: Near, r: &[u8]) -> u8
 }
 
 // The number of the first broken rule of an arrival, or 0.
-#[tactic(auto, unfolding(crate::specs::Far::arrival_rules))]
 pub(crate) fn arrival_refusal(r: &[u8], reply_room: usize, room: usize) -> u8
     ensures { result ≡ first (arrival_rules r.now reply_room room) }
 {

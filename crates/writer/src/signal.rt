@@ -45,7 +45,6 @@ fn record_refusal(s: Signal, n: usize) -> u8
 }
 
 // The number of the first rule of writing that is broken, or 0.
-#[tactic(auto, unfolding(pdu::specs::Writing::writing_rules))]
 pub(crate) fn refusal(s: Signal, n: usize, room: usize) -> u8
     ensures { result ≡ writing_refusal (a_signal s n) room }
 {
