@@ -2,7 +2,8 @@
 # prove.sh archive|program|library CRATE: proves a crate and those it stands on, and builds
 #   archive   target/staticlib/libCRATE.a, for every x86-64 processor
 #   program   target/bin/CRATE, which must print crates/CRATE/stdout when crates/CRATE/stdin is its input
-#   library   target/mir/NAME.json for the crate and each of those: what the compiler made of its functions
+#   library   target/mir/NAME.json for the crate and each of those, and for the toolchain's core: what the compiler made of
+#             its functions
 # Standard error gets which crates these are, what rt tells on the way, and all that rt printed where
 # something is not proved.
 set -euo pipefail
@@ -61,6 +62,12 @@ library() {
     for name in $(below "$crate"); do
         cp "crates/$name/out/rlib/$name.rlib/toolchain/mir.json" "target/mir/$name.json"
     done
+    cp "$(kit)/rlibs/core.rlib/toolchain/mir.json" target/mir/core.json
+}
+
+# kit: the folder of the toolchain that rt belongs to.
+kit() {
+    dirname "$(dirname "$(readlink -f "$(command -v rt)")")"
 }
 
 archive() {

@@ -7,6 +7,8 @@ pub struct Cursor<'a> {
     pub tokens: &'a [Token],
     at: usize,
     end: usize,
+    /// Whether the first half of the `>>` that is next is passed.
+    half: bool,
 }
 
 /// The mark that closes what this one opens.
@@ -59,6 +61,7 @@ impl<'a> Cursor<'a> {
             tokens,
             at: span.start,
             end: span.end,
+            half: false,
         }
     }
 
@@ -174,12 +177,34 @@ impl<'a> Cursor<'a> {
         Ok(start..self.at)
     }
 
-    pub fn attributes(&mut self) -> Result<(), Trouble> {
+    /// Goes up to the comma behind a type, or to the end; what is passed.
+    pub fn type_up_to_comma(&mut self) -> Result<Span, Trouble> {
+        let start = self.at;
+        while !self.is_end() && !self.looks_at(&[","]) {
+            if self.looks_at(&["<"]) {
+                self.angles()?;
+            } else {
+                self.until(&["<", ","])?;
+            }
+        }
+        Ok(start..self.at)
+    }
+
+    /// Goes past attributes; the traits that they derive.
+    pub fn attributes(&mut self) -> Result<Vec<String>, Trouble> {
+        let mut derived = Vec::new();
         while self.eats("#") {
             self.eats("!");
-            self.group()?;
+            let inside = self.group()?;
+            let mut inner = self.within(inside);
+            if inner.eats("derive") {
+                let traits = inner.group()?;
+                let words = self.tokens[traits].iter();
+                let words = words.filter(|token| token.kind == Kind::Word);
+                derived.extend(words.map(|token| token.text.clone()));
+            }
         }
-        Ok(())
+        Ok(derived)
     }
 
     /// Whether `pub` stands here, for everyone.
@@ -198,9 +223,59 @@ impl<'a> Cursor<'a> {
     /// A path, `a::b::c`.
     pub fn path(&mut self) -> Result<Vec<String>, Trouble> {
         let mut path = vec![self.word()?];
-        while self.eats("::") {
+        while self.looks_at(&["::"]) && !self.looks_at(&["::", "<"]) {
+            self.next();
             path.push(self.word()?);
         }
         Ok(path)
+    }
+
+    /// Goes past the name of a lifetime or a label, if it is next.
+    pub fn eats_lifetime(&mut self) -> bool {
+        let here = self
+            .token()
+            .is_some_and(|token| token.kind == Kind::Mark && token.text.starts_with('\''));
+        self.at += usize::from(here);
+        here
+    }
+
+    /// Goes past a `>`, which may be a half of `>>`.
+    pub fn closes_angle(&mut self) -> bool {
+        if self.looks_at(&[">>"]) && !self.half {
+            self.half = true;
+            return true;
+        }
+        let closes = self.looks_at(&[">"]) || self.half;
+        self.at += usize::from(closes);
+        self.half = false;
+        closes
+    }
+
+    /// Goes past `<`, what stands between it and the `>` that closes it, and that; what is between.
+    pub fn angles(&mut self) -> Result<Span, Trouble> {
+        self.expect("<")?;
+        let start = self.at;
+        let mut open = 1;
+        while !self.is_end() {
+            let here = self.at;
+            match self.token() {
+                Some(token) if token.kind == Kind::Mark && closing(&token.text).is_some() => {
+                    self.at = behind_group(self.tokens, self.at)?;
+                    continue;
+                }
+                Some(token) if token.kind == Kind::Mark => match token.text.as_str() {
+                    "<" => open += 1,
+                    ">" => open -= 1,
+                    ">>" => open -= 2,
+                    _ => {}
+                },
+                _ => {}
+            }
+            self.at += 1;
+            if open <= 0 {
+                return Ok(start..here);
+            }
+        }
+        self.trouble("has a `<` that is not closed")
     }
 }

@@ -23,7 +23,7 @@ pub fn read(folder: &Path) -> Result<Sources, String> {
 
 /// The functions in each file `FOLDER/..json`.
 pub fn read_mir(folder: &Path) -> Result<Mir, String> {
-    let mut found = Mir::new();
+    let mut found = Mir::default();
     for name in names_in(folder)? {
         let path = folder.join(name);
         if path

@@ -54,6 +54,17 @@ impl Json {
         }
     }
 
+    /// The value of a field.
+    pub fn field(&self, name: &str) -> Option<&Json> {
+        match self {
+            Json::Fields(fields) => fields
+                .iter()
+                .find(|(field, _)| field == name)
+                .map(|(_, value)| value),
+            _ => None,
+        }
+    }
+
     /// Shows each field inside to `look`, those around another first.
     pub fn each_field<'a>(&'a self, look: &mut impl FnMut(&'a str, &'a Json)) {
         match self {

@@ -25,8 +25,8 @@ use std::process::ExitCode;
 
 const USAGE: &str = "usage:
   source-test FOLDER MIR   the crates in this folder: no long array in what the writer calls;
-                           MIR is a folder with the MIR of the writer's library and of each
-                           below it, a file CRATE.json for each";
+                           MIR is a folder with the MIR of the writer's library, of each
+                           below it and of the language's, a file CRATE.json for each";
 
 const BAD_ARGUMENTS: u8 = 2;
 

@@ -6,8 +6,12 @@ use crate::items::Span;
 use crate::lexer::{Kind, Token, Trouble};
 
 pub enum What {
-    /// A path, and whether it is called.
-    Path { path: Vec<String>, called: bool },
+    /// A path, the lists of types in it, and whether it is called.
+    Path {
+        path: Vec<String>,
+        types: Vec<Span>,
+        called: bool,
+    },
     /// `.name(`
     Method(String),
     /// Square brackets that are no index: what stands inside.
@@ -22,6 +26,9 @@ pub struct Mention {
     pub what: What,
     pub line: usize,
 }
+
+/// The macros that are followed: what stands behind them is read as code.
+const MACROS: [&str; 2] = ["matches", "unreachable"];
 
 /// The words of the language that may stand where a name may.
 const KEYWORDS: [&str; 19] = [
@@ -113,15 +120,40 @@ fn word(tokens: &[Token], end: usize, at: usize) -> Result<(Option<What>, usize)
         return Ok((unclear.map(What::Unclear), at + 1));
     }
     let mut cursor = Cursor::new(tokens, at..end);
-    let path = cursor.path()?;
+    let (path, types) = path_and_types(&mut cursor)?;
     let next = cursor.at();
     let behind = tokens[..end].get(next);
     if is_mark(behind, "!") {
-        return Ok((Some(What::Unclear("uses a macro")), next + 1));
+        let is_followed = path.len() == 1 && MACROS.contains(&path[0].as_str());
+        return Ok((
+            (!is_followed).then_some(What::Unclear("uses a macro")),
+            next + 1,
+        ));
     }
     if path.len() == 1 && is_mark(behind, ":") {
         return Ok((None, next));
     }
     let called = is_mark(behind, "(");
-    Ok((Some(What::Path { path, called }), next))
+    let what = What::Path {
+        path,
+        types,
+        called,
+    };
+    Ok((Some(what), next))
+}
+
+/// A path, and the lists of types in it: `a::b::<A>::c`.
+fn path_and_types(cursor: &mut Cursor) -> Result<(Vec<String>, Vec<Span>), Trouble> {
+    let mut path = cursor.path()?;
+    let mut types = Vec::new();
+    while cursor.looks_at(&["::", "<"]) {
+        cursor.next();
+        let start = cursor.at();
+        cursor.angles()?;
+        types.push(start..cursor.at());
+        if cursor.eats("::") {
+            path.extend(cursor.path()?);
+        }
+    }
+    Ok((path, types))
 }

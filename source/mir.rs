@@ -9,12 +9,18 @@ use std::collections::{BTreeMap, BTreeSet};
 #[derive(Default)]
 pub struct Compiled {
     calls: BTreeSet<String>,
+    /// The `impl`s that it hands to what it calls: each function of these may be called.
+    impls: BTreeSet<String>,
     /// What is found of its arrays and calls, in words.
     says: Vec<String>,
 }
 
-/// The functions of all crates, by their whole names.
-pub type Mir = BTreeMap<String, Compiled>;
+/// The functions of all crates, by their whole names, and those of each `impl`.
+#[derive(Default)]
+pub struct Mir {
+    functions: BTreeMap<String, Compiled>,
+    members: BTreeMap<String, Vec<String>>,
+}
 
 /// What the compiler calls from some functions on.
 pub struct Followed {
@@ -31,9 +37,19 @@ pub fn add(mir: &mut Mir, text: &str) -> Result<(), String> {
             return Err("a function is no pair".to_string());
         };
         let name = name.text().ok_or("a function has no name")?;
-        mir.insert(name.to_string(), compiled(inside));
+        if let Some(of) = impl_of(inside) {
+            let members = mir.members.entry(of.to_string()).or_default();
+            members.push(name.to_string());
+        }
+        mir.functions.insert(name.to_string(), compiled(inside));
     }
     Ok(())
+}
+
+/// The `impl` that a function stands in.
+fn impl_of(function: &Json) -> Option<&str> {
+    let of = function.field("generics")?.field("method_of")?;
+    first(of.field("Impl")?).and_then(Json::text)
 }
 
 fn compiled(function: &Json) -> Compiled {
@@ -45,6 +61,17 @@ fn compiled(function: &Json) -> Compiled {
             }
             None => found.says.push("calls what has no name".to_string()),
         },
+        // Where a function says what it stands in itself, a number is behind the name.
+        "Impl"
+            if value
+                .list()
+                .is_some_and(|of| of.get(1).is_some_and(is_number)) => {}
+        "Impl" => match first(value).and_then(Json::text) {
+            Some(of) => {
+                found.impls.insert(of.to_string());
+            }
+            None => found.says.push("hands on what has no name".to_string()),
+        },
         "Call" | "CallV" if !is_direct(value) => found.says.push("calls a value".to_string()),
         "Array" => found.says.extend(array(value)),
         _ => {}
@@ -52,14 +79,18 @@ fn compiled(function: &Json) -> Compiled {
     found
 }
 
+fn is_number(value: &Json) -> bool {
+    value.number().is_some()
+}
+
 fn first(value: &Json) -> Option<&Json> {
     value.list().and_then(<[Json]>::first)
 }
 
-/// Whether a call names its function.
+/// Whether a call names its function, or is of a function of an `impl` that is handed in.
 fn is_direct(call: &Json) -> bool {
     let head = first(call).and_then(Json::alone);
-    head.is_some_and(|(name, _)| name == "Fn")
+    head.is_some_and(|(name, _)| ["Fn", "Method"].contains(&name))
 }
 
 /// What there is to say of an array's type, if anything.
@@ -114,13 +145,21 @@ pub fn follow(mir: &Mir, from: impl IntoIterator<Item = String>) -> Followed {
         if !followed.functions.insert(name.clone()) {
             continue;
         }
-        match mir.get(&name) {
+        match mir.functions.get(&name) {
             Some(function) => {
                 let says = function.says.iter();
                 followed
                     .says
                     .extend(says.map(|says| format!("`{name}` {says}")));
                 waiting.extend(function.calls.iter().cloned());
+                for of in &function.impls {
+                    match mir.members.get(of) {
+                        Some(members) => waiting.extend(members.iter().cloned()),
+                        None => followed
+                            .says
+                            .push(format!("the compiler has no functions of `{of}`")),
+                    }
+                }
             }
             None => followed.says.push(format!("the compiler has no `{name}`")),
         }

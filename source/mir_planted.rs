@@ -56,6 +56,29 @@ pub const PLANTS: &[Plant] = &[
         found: Some("no `core::gone`"),
     },
     Plant {
+        what: "MIR: a long array in a function of an impl that is handed on",
+        text: r#"[["from",{"locals":[],"body":[{"Call":[{"Fn":["mid",{"types":[],"dicts":[{"Impl":["U8Wide",[],[]]}]}]},[],{"local":0}]}]}],
+            ["mid",{"locals":[],"body":[{"Call":[{"Method":[{"Given":0},1,{"types":[],"dicts":[]}]},[],{"local":0}]}]}],
+            ["U8Wide::low",{"generics":{"method_of":{"Impl":["U8Wide",0]}},"locals":[{"ty":{"Array":[{"Int":8},{"Lit":33}]}}],"body":[]}]]"#,
+        found: Some("`U8Wide::low` has an array of 33 bytes"),
+    },
+    Plant {
+        what: "MIR: a long array in a function of an impl that is not handed on",
+        text: r#"[["from",{"generics":{"method_of":{"Impl":["U8Wide",1]}},"locals":[],"body":["Return"]}],
+            ["U8Wide::low",{"generics":{"method_of":{"Impl":["U8Wide",0]}},"locals":[{"ty":{"Array":[{"Int":8},{"Lit":33}]}}],"body":[]}]]"#,
+        found: None,
+    },
+    Plant {
+        what: "MIR: an impl that the compiler does not have",
+        text: r#"[["from",{"locals":[],"body":[{"Call":[{"Fn":["leaf",{"types":[],"dicts":[{"Impl":["U8Gone",[],[]]}]}]},[],{"local":0}]}]}]]"#,
+        found: Some("no functions of `U8Gone`"),
+    },
+    Plant {
+        what: "MIR: an array of a type that is a parameter",
+        text: r#"[["from",{"locals":[{"ty":{"Array":[{"Param":0},{"Lit":2}]}}],"body":[]}]]"#,
+        found: Some("cannot be told"),
+    },
+    Plant {
         what: "MIR: a call of a value",
         text: r#"[["from",{"locals":[],"body":[{"Call":[{"Copy":{"local":1}},[],{"local":0}]}]}]]"#,
         found: Some("`from` calls a value"),
@@ -64,7 +87,7 @@ pub const PLANTS: &[Plant] = &[
 
 /// Whether what is planted is found; else what went wrong.
 pub fn holds(plant: &Plant) -> Result<(), String> {
-    let mut mir = Mir::new();
+    let mut mir = Mir::default();
     add(&mut mir, plant.text)?;
     add(&mut mir, LEAF)?;
     let says = follow(&mir, ["from".to_string(), "leaf".to_string()]).says;

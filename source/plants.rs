@@ -19,7 +19,7 @@ const UNRESOLVED: &str = "cannot be resolved";
 pub const PLANTS: &[Plant] = &[
     Plant {
         what: "an array type in a leaf",
-        plantings: &[plant(Inside("wire::put_u16"), "let scratch: [u8; 64];")],
+        plantings: &[plant(Inside("wire::zero"), "let scratch: [u8; 64];")],
         found: Some((0, LONG)),
     },
     Plant {
@@ -48,13 +48,13 @@ pub const PLANTS: &[Plant] = &[
     },
     Plant {
         what: "33 bytes",
-        plantings: &[plant(Inside("wire::put_u16"), "let scratch = [0u8; 33];")],
+        plantings: &[plant(Inside("wire::zero"), "let scratch = [0u8; 33];")],
         found: Some((0, "array of 33 bytes")),
     },
     Plant {
         what: "32 bytes are allowed",
         plantings: &[plant(
-            Inside("wire::put_u16"),
+            Inside("wire::zero"),
             "let scratch: [u8; 32] = [0u8; 32];",
         )],
         found: None,
@@ -62,7 +62,7 @@ pub const PLANTS: &[Plant] = &[
     Plant {
         what: "a list of 5 numbers of 8 bytes",
         plantings: &[plant(
-            Inside("wire::put_u16"),
+            Inside("wire::zero"),
             "let scratch = [0u64, 1, 2, 3, 4];",
         )],
         found: Some((0, "array of 40 bytes")),
@@ -70,7 +70,7 @@ pub const PLANTS: &[Plant] = &[
     Plant {
         what: "a list of 4 numbers of 8 bytes is allowed",
         plantings: &[plant(
-            Inside("wire::put_u16"),
+            Inside("wire::zero"),
             "let scratch = [v as u64, 1, 2, 3];",
         )],
         found: None,
@@ -78,7 +78,7 @@ pub const PLANTS: &[Plant] = &[
     Plant {
         what: "an array of arrays",
         plantings: &[plant(
-            Inside("wire::put_u16"),
+            Inside("wire::zero"),
             "let scratch = [[0u8; 11]; 3];",
         )],
         found: Some((0, "array of 33 bytes")),
@@ -109,18 +109,18 @@ pub const PLANTS: &[Plant] = &[
     },
     Plant {
         what: "a length that cannot be told",
-        plantings: &[plant(Inside("wire::put_u16"), "let scratch = [0u8; at];")],
+        plantings: &[plant(Inside("wire::zero"), "let scratch = [0u8; at];")],
         found: Some((0, "length cannot be told")),
     },
     Plant {
         what: "elements that do not tell their type",
-        plantings: &[plant(Inside("wire::put_u16"), "let scratch = [v; 2];")],
+        plantings: &[plant(Inside("wire::zero"), "let scratch = [v; 2];")],
         found: Some((0, "do not tell their type")),
     },
     Plant {
         what: "a byte string",
         plantings: &[plant(
-            Inside("wire::put_u16"),
+            Inside("wire::zero"),
             "let text = b\"123456789012345678901234567890123\";",
         )],
         found: Some((0, "array of 33 bytes")),
@@ -228,7 +228,7 @@ pub const PLANTS: &[Plant] = &[
             CALLEE,
             plant(
                 Behind("writer::header"),
-                "use wire::{put_u8, planted as other};",
+                "use wire::{put, planted as other};",
             ),
             plant(Inside("writer::header::put"), "other();"),
         ],
@@ -275,7 +275,7 @@ pub const PLANTS: &[Plant] = &[
             ),
             plant(
                 Inside("writer::header::put"),
-                "wire::put_u8(out, 0, pdu::rules::between(h.version));",
+                "wire::put(out, 0, pdu::rules::between(h.version));",
             ),
         ],
         found: Some((0, LONG)),
@@ -337,7 +337,7 @@ pub const PLANTS: &[Plant] = &[
         what: "a function of a type",
         plantings: &[plant(
             Inside("writer::header::put"),
-            "let h = pdu::Header::new();",
+            "let other = pdu::Header::new();",
         )],
         found: Some((0, UNRESOLVED)),
     },
@@ -351,15 +351,189 @@ pub const PLANTS: &[Plant] = &[
     },
     Plant {
         what: "a function by its types",
+        plantings: &[
+            plant(
+                Behind("wire"),
+                "pub fn planted<T: Copy>() { let scratch = [0u8; 64]; }",
+            ),
+            plant(Inside("writer::header::put"), "wire::planted::<u8>();"),
+        ],
+        found: Some((0, LONG)),
+    },
+    Plant {
+        what: "an array among the types of a call",
+        plantings: &[
+            plant(Behind("wire"), "pub fn planted<T>() {}"),
+            plant(
+                Inside("writer::header::put"),
+                "wire::planted::<Option<[u8; 64]>>();",
+            ),
+        ],
+        found: Some((1, LONG)),
+    },
+    Plant {
+        what: "a function of a type, in another crate",
+        plantings: &[
+            plant(
+                Behind("pdu"),
+                "impl Header { fn planted() { let scratch = [0u8; 64]; } }",
+            ),
+            plant(Inside("writer::header::put"), "pdu::Header::planted();"),
+        ],
+        found: Some((0, LONG)),
+    },
+    Plant {
+        what: "a method, whatever its type",
+        plantings: &[
+            plant(
+                Behind("pdu"),
+                "impl Network { pub fn planted(self) -> Result<(), u8> { let scratch = [0u8; 64]; Ok(()) } }",
+            ),
+            plant(Inside("writer::header::put"), "other.planted();"),
+        ],
+        found: Some((0, LONG)),
+    },
+    Plant {
+        what: "a method that only a crate has that is not seen",
+        plantings: &[
+            plant(
+                Behind("writer"),
+                "impl Inside { pub fn planted(self) {} }",
+            ),
+            plant(Inside("wire::copy"), "other.planted();"),
+        ],
+        found: Some((1, UNRESOLVED)),
+    },
+    Plant {
+        what: "a method of the type of a function's parameter",
+        plantings: &[
+            plant(
+                Behind("wire"),
+                "pub trait Wide { fn planted(self); } impl Wide for u8 { fn planted(self) { let scratch = [0u8; 64]; } } pub fn other<T: Wide>(v: T) { T::planted(v); }",
+            ),
+            plant(Inside("writer::header::put"), "wire::other(1u8);"),
+        ],
+        found: Some((0, LONG)),
+    },
+    Plant {
+        what: "a method that a trait has for all",
+        plantings: &[
+            plant(
+                Behind("wire"),
+                "pub trait Wide { fn planted(self) { let scratch = [0u8; 64]; } } impl Wide for u8 {}",
+            ),
+            plant(Inside("writer::header::put"), "1u8.planted();"),
+        ],
+        found: Some((0, LONG)),
+    },
+    Plant {
+        what: "a constant of the type of a function's parameter",
+        plantings: &[
+            plant(
+                Behind("wire"),
+                "pub trait Wide { const PLANTED: [u8; 64]; } impl Wide for u8 { const PLANTED: [u8; 64] = [0u8; 64]; } pub fn other<T: Wide>() -> u8 { T::PLANTED[0] }",
+            ),
+            plant(Inside("writer::header::put"), "wire::other::<u8>();"),
+        ],
+        found: Some((0, LONG)),
+    },
+    Plant {
+        what: "an operator",
         plantings: &[plant(
-            Inside("writer::header::put"),
-            "wire::put_u8::<u8>(out);",
+            Behind("pdu"),
+            "impl PartialEq for Other { fn eq(&self, other: &Self) -> bool { let scratch = [0u8; 64]; true } }",
         )],
-        found: Some((0, "where a name is expected")),
+        found: Some((0, LONG)),
+    },
+    Plant {
+        what: "a function that is written out for a formatter alone is not called",
+        plantings: &[plant(
+            Behind("pdu"),
+            "impl fmt::Debug for Other { fn fmt(&self) -> bool { let scratch = [0u8; 64]; true } }",
+        )],
+        found: None,
+    },
+    Plant {
+        what: "a closure",
+        plantings: &[plant(
+            Inside("wire::copy"),
+            "let yes = src.iter().all(|b| [0u8; 64][0] == *b);",
+        )],
+        found: Some((0, LONG)),
+    },
+    Plant {
+        what: "an array in a type that may be none",
+        plantings: &[plant(
+            Inside("wire::zero"),
+            "let scratch: Option<Result<[u8; 64], u8>> = None;",
+        )],
+        found: Some((0, LONG)),
+    },
+    Plant {
+        what: "an array of a type that may be none",
+        plantings: &[plant(
+            Inside("wire::zero"),
+            "let scratch: [Option<u32>; 5];",
+        )],
+        found: Some((0, "array of 40 bytes")),
+    },
+    Plant {
+        what: "an array of a type that is a parameter",
+        plantings: &[
+            plant(
+                Behind("wire"),
+                "pub fn planted<T: Copy>(v: T) { let scratch = [v; 2]; }",
+            ),
+            plant(Inside("writer::header::put"), "wire::planted(0u8);"),
+        ],
+        found: Some((0, "is not known")),
+    },
+    Plant {
+        what: "a length that is a parameter",
+        plantings: &[
+            plant(
+                Behind("wire"),
+                "pub fn planted<const N: usize>() { let scratch = [0u8; N]; }",
+            ),
+            plant(Inside("writer::header::put"), "wire::planted::<2>();"),
+        ],
+        found: Some((0, "length cannot be told")),
+    },
+    Plant {
+        what: "a list of a parameter's fields",
+        plantings: &[plant(
+            Inside("writer::transmitter::put_antenna"),
+            "let scratch = [a.x, a.y, a.z, a.x, a.y];",
+        )],
+        found: Some((0, "array of 40 bytes")),
+    },
+    Plant {
+        what: "a list of a parameter that is bound anew",
+        plantings: &[plant(
+            Inside("wire::zero"),
+            "let n = other; let scratch = [n, n];",
+        )],
+        found: Some((0, "do not tell their type")),
+    },
+    Plant {
+        what: "a list of elements of a slice",
+        plantings: &[plant(
+            Inside("wire::copy"),
+            "let scratch = [[src[0]; 11], [src[1]; 11], [src[2]; 11]];",
+        )],
+        found: Some((0, "array of 33 bytes")),
+    },
+    Plant {
+        what: "a macro whose tests are read",
+        plantings: &[plant(
+            Inside("wire::zero"),
+            "let yes = matches!(at, 1 | 2) || matches!([0u8; 64][at], 1);",
+        )],
+        found: Some((0, LONG)),
     },
     Plant {
         what: "a method that is not the language's",
-        plantings: &[plant(Inside("wire::copy"), "out.fill(0);")],
+        plantings: &[plant(Inside("wire::copy"), "out.reverse();")],
         found: Some((0, UNRESOLVED)),
     },
     Plant {
@@ -384,14 +558,6 @@ pub const PLANTS: &[Plant] = &[
         found: Some((0, UNRESOLVED)),
     },
     Plant {
-        what: "a function of any type",
-        plantings: &[
-            plant(Behind("wire"), "pub fn planted<T>(later: T) {}"),
-            plant(Inside("writer::header::put"), "wire::planted(later);"),
-        ],
-        found: Some((0, "is not followed")),
-    },
-    Plant {
         what: "a type that is nowhere",
         plantings: &[plant(
             Inside("writer::header::put"),
@@ -403,7 +569,7 @@ pub const PLANTS: &[Plant] = &[
         what: "an item inside a function",
         plantings: &[plant(
             Inside("writer::header::put"),
-            "use wire::put_u8 as other;",
+            "use wire::put as other;",
         )],
         found: Some((0, "declares an item inside")),
     },

@@ -1,8 +1,9 @@
 //! All crates as one program: files, modules with their items, and what a path names.
 
-use crate::items::{items, Item, Named};
-use crate::lexer::{tokens, Token};
-use std::collections::BTreeMap;
+use crate::items::{items, Item, Named, Owner};
+use crate::lexer::{tokens, Kind, Token};
+use crate::types::{self, Type};
+use std::collections::{BTreeMap, BTreeSet};
 use std::fmt;
 
 /// The text of each source file, by its path.
@@ -24,6 +25,8 @@ pub struct Module {
 pub struct Program {
     pub files: Vec<File>,
     pub modules: BTreeMap<Key, Module>,
+    /// The crates that each names, and those that these name.
+    sees: BTreeMap<String, BTreeSet<String>>,
 }
 
 /// A place in a source file, and a sentence about it.
@@ -49,7 +52,7 @@ pub struct Place {
 }
 
 /// What a path names.
-#[derive(Clone)]
+#[derive(Clone, PartialEq)]
 pub enum Target {
     Module(Key),
     /// A function, a constant or a type.
@@ -88,6 +91,7 @@ impl Program {
         let mut program = Program {
             files: Vec::new(),
             modules: BTreeMap::new(),
+            sees: BTreeMap::new(),
         };
         for path in sources.keys() {
             for root in ["/src/lib.rt", "/src/main.rt"] {
@@ -97,7 +101,85 @@ impl Program {
                 }
             }
         }
+        program.look_around();
         Ok(program)
+    }
+
+    /// Which crates each sees: those that its paths begin with, and those that these see.
+    fn look_around(&mut self) {
+        for (module, inside) in &self.modules {
+            let tokens = &self.files[inside.file].tokens;
+            let named = tokens.windows(2).filter(|two| two[1].text == "::");
+            let named = named.map(|two| two[0].text.clone());
+            let seen = named.filter(|name| self.modules.contains_key(&vec![name.clone()]));
+            let seen = seen.collect::<Vec<String>>();
+            self.sees.entry(module[0].clone()).or_default().extend(seen);
+        }
+        for _ in 0..self.sees.len() {
+            let before = self.sees.clone();
+            for seen in self.sees.values_mut() {
+                let more = seen.iter().filter_map(|name| before.get(name)).flatten();
+                let more = more.cloned().collect::<Vec<String>>();
+                seen.extend(more);
+            }
+        }
+    }
+
+    /// Whether what stands in one crate may be called from another.
+    pub fn is_seen(&self, from: &str, of: &str) -> bool {
+        from == of || self.sees.get(from).is_some_and(|seen| seen.contains(of))
+    }
+
+    pub fn has_crate(&self, name: &str) -> bool {
+        self.modules.contains_key(&vec![name.to_string()])
+    }
+
+    /// All that stands in an `impl` or a trait.
+    pub fn members(&self) -> impl Iterator<Item = (Place, &Named, &Owner)> {
+        self.modules.iter().flat_map(|(module, inside)| {
+            let items = inside.items.iter().enumerate();
+            items.filter_map(move |(index, named)| {
+                let place = Place {
+                    module: module.clone(),
+                    index,
+                };
+                Some((place, named, named.owner.as_ref()?))
+            })
+        })
+    }
+
+    /// The members of this name in the crates that one sees: a call of it may lead to each.
+    pub fn members_named(&self, from: &str, name: &str) -> Vec<Target> {
+        let named = self.members().filter(|(_, named, _)| named.name == name);
+        let seen = named.filter(|(place, _, _)| self.is_seen(from, &place.module[0]));
+        seen.map(|(place, _, _)| Target::Item(place)).collect()
+    }
+
+    /// The type of an `impl`, or the trait whose own a member is.
+    pub fn owner_of(&self, module: &Key, owner: &Owner) -> Option<Target> {
+        let of = types::read(self, module, owner.of.clone()).ok()?;
+        let Type::Path(path, _) = of else {
+            return None;
+        };
+        self.targets(module, &path)
+            .into_iter()
+            .find(|target| match target {
+                Target::Item(place) => self.is_type(place),
+                Target::Language(path) => path.len() == 1,
+                _ => false,
+            })
+    }
+
+    /// The members of this name that a type has, or that types have by a trait.
+    fn members_of(&self, target: &Target, name: &str) -> Vec<Target> {
+        let named = self.members().filter(|(_, named, _)| named.name == name);
+        let found = named.filter(|(place, _, owner)| {
+            let by = owner.by.iter();
+            let mut by = by.flat_map(|path| self.targets(&place.module, path));
+            self.owner_of(&place.module, owner).as_ref() == Some(target)
+                || by.any(|found| found == *target)
+        });
+        found.map(|(place, _, _)| Target::Item(place)).collect()
     }
 
     /// Reads the file of a module, and those of the modules inside it.
@@ -159,9 +241,24 @@ impl Program {
         &self.files[self.modules[module].file].path
     }
 
-    /// The whole name of an item.
+    /// The whole name of an item, as the compiler has it: a function of a type stands in the
+    /// type's module, one of a trait behind the names of both.
     pub fn name(&self, place: &Place) -> String {
-        format!("{}::{}", place.module.join("::"), self.item(place).name)
+        let named = self.item(place);
+        let Some(owner) = &named.owner else {
+            return format!("{}::{}", place.module.join("::"), named.name);
+        };
+        let words = self.tokens(&place.module)[owner.of.clone()].iter();
+        let mut words = words.filter(|token| token.kind == Kind::Word);
+        let of = words.next_back().map_or("", |token| &token.text);
+        let module = match (&owner.by, self.owner_of(&place.module, owner)) {
+            (None, Some(Target::Item(of))) => of.module.join("::"),
+            _ => place.module.join("::"),
+        };
+        match owner.by.as_ref().and_then(|by| by.last()) {
+            Some(by) if by != of => format!("{module}::{}{by}::{}", capital(of), named.name),
+            _ => format!("{module}::{of}::{}", named.name),
+        }
     }
 
     /// All that a path names in a module: it can be a type and a value at once.
@@ -228,7 +325,7 @@ impl Program {
             .items
             .iter()
             .enumerate()
-            .filter(|(_, named)| named.name == name)
+            .filter(|(_, named)| named.name == name && named.owner.is_none())
         {
             match &named.item {
                 Item::Module { .. } => {
@@ -258,7 +355,7 @@ impl Program {
     }
 
     /// What a name stands for inside what its path has led to so far.
-    fn inside(&self, target: &Target, name: &str, depth: usize) -> Vec<Target> {
+    pub fn inside(&self, target: &Target, name: &str, depth: usize) -> Vec<Target> {
         match target {
             Target::Module(module) if name == "super" => {
                 vec![Target::Module(
@@ -270,14 +367,35 @@ impl Program {
                 Item::Enum { variants } if variants.iter().any(|(variant, _)| variant == name) => {
                     vec![Target::Variant(place.clone())]
                 }
-                _ => Vec::new(),
+                Item::Alias { stands_for } if depth < IMPORTS_MAX => {
+                    let of = types::read(self, &place.module, stands_for.clone());
+                    let Ok(Type::Path(path, _)) = of else {
+                        return Vec::new();
+                    };
+                    let named = self.follow(&place.module, &path, depth + 1);
+                    let named = named.iter();
+                    named
+                        .flat_map(|to| self.inside(to, name, depth + 1))
+                        .collect()
+                }
+                _ => self.members_of(target, name),
             },
             Target::Language(path) => {
+                let own = self.members_of(target, name);
+                if !own.is_empty() {
+                    return own;
+                }
                 vec![Target::Language([&path[..], &[name.to_string()]].concat())]
             }
             Target::Variant(_) => Vec::new(),
         }
     }
+}
+
+/// A name with a capital, as the compiler puts a trait's behind it.
+fn capital(name: &str) -> String {
+    let (first, rest) = name.split_at(name.len().min(1));
+    format!("{}{rest}", first.to_uppercase())
 }
 
 /// The file of a module that is named in this file.

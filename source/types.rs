@@ -1,14 +1,15 @@
 //! Types: reading them, the arrays inside them, and their sizes.
 
-use crate::cursor::{parts, Cursor};
-use crate::items::{Item, Span};
+use crate::cursor::Cursor;
+use crate::items::{Field, Item, Span};
 use crate::lengths;
-use crate::lexer::Trouble;
+use crate::lexer::{Kind, Trouble};
 use crate::program::{Key, Place, Program, Target, SCALARS};
 
 /// A type as it is written; the paths in it are those of its module.
 pub enum Type {
-    Path(Vec<String>),
+    /// A path, and the types behind it in angle brackets.
+    Path(Vec<String>, Vec<Type>),
     /// A reference to what follows.
     Reference(Box<Type>),
     Slice(Box<Type>),
@@ -41,15 +42,7 @@ pub fn read(program: &Program, module: &Key, span: Span) -> Result<Type, Trouble
 
 fn read_at(cursor: &mut Cursor) -> Result<Type, Trouble> {
     if cursor.eats("&") {
-        if cursor
-            .token()
-            .is_some_and(|token| token.text.starts_with('\''))
-        {
-            let lifetime = cursor
-                .token()
-                .map_or(String::new(), |token| token.text.clone());
-            cursor.eats(&lifetime);
-        }
+        cursor.eats_lifetime();
         cursor.eats("mut");
         return Ok(Type::Reference(Box::new(read_at(cursor)?)));
     }
@@ -59,13 +52,41 @@ fn read_at(cursor: &mut Cursor) -> Result<Type, Trouble> {
     }
     if cursor.looks_at(&["("]) {
         let inside = cursor.group()?;
-        let spans = parts(cursor.tokens, inside, ",")?;
-        let fields = spans
-            .into_iter()
-            .map(|span| read_at(&mut cursor.within(span)));
-        return Ok(Type::Tuple(fields.collect::<Result<_, _>>()?));
+        let mut inner = cursor.within(inside);
+        let mut fields = Vec::new();
+        while !inner.is_end() {
+            fields.push(read_at(&mut inner)?);
+            if !inner.is_end() {
+                inner.expect(",")?;
+            }
+        }
+        return Ok(Type::Tuple(fields));
     }
-    Ok(Type::Path(cursor.path()?))
+    let path = cursor.path()?;
+    let types = if cursor.looks_at(&["<"]) {
+        read_list(cursor)?
+    } else {
+        Vec::new()
+    };
+    Ok(Type::Path(path, types))
+}
+
+/// The types between `<` and `>`; lifetimes and numbers are left out.
+pub fn read_list(cursor: &mut Cursor) -> Result<Vec<Type>, Trouble> {
+    cursor.expect("<")?;
+    let mut found = Vec::new();
+    while !cursor.closes_angle() {
+        if cursor.is_end() {
+            return cursor.trouble("has a `<` that is not closed");
+        }
+        match cursor.token() {
+            Some(token) if token.kind == Kind::Number => cursor.next(),
+            _ if cursor.eats_lifetime() => {}
+            _ => found.push(read_at(cursor)?),
+        }
+        cursor.eats(",");
+    }
+    Ok(found)
 }
 
 /// What stands inside the brackets of a slice's or an array's type.
@@ -94,7 +115,7 @@ impl Program {
     pub fn is_type(&self, place: &Place) -> bool {
         matches!(
             self.item(place).item,
-            Item::Struct { .. } | Item::Enum { .. } | Item::Alias { .. }
+            Item::Struct { .. } | Item::Enum { .. } | Item::Alias { .. } | Item::Trait
         )
     }
 
@@ -124,11 +145,17 @@ impl Program {
                     .map(|field| self.size(module, field, depth + 1));
                 Ok(side_by_side(&sizes.collect::<Result<Vec<_>, _>>()?))
             }
-            Type::Path(path) => self.size_of_path(module, path, depth),
+            Type::Path(path, types) => self.size_of_path(module, path, types, depth),
         }
     }
 
-    fn size_of_path(&self, module: &Key, path: &[String], depth: usize) -> Result<Size, String> {
+    fn size_of_path(
+        &self,
+        module: &Key,
+        path: &[String],
+        types: &[Type],
+        depth: usize,
+    ) -> Result<Size, String> {
         let unknown = || {
             Err(format!(
                 "names the type `{}`, which is not known",
@@ -146,6 +173,10 @@ impl Program {
                 })
             }
             Some(Target::Item(place)) => self.size_of_item(&place, depth + 1),
+            None if is_wrapper(path) => {
+                let sizes = types.iter().map(|of| self.size(module, of, depth + 1));
+                Ok(one_of(&sizes.collect::<Result<Vec<_>, _>>()?))
+            }
             _ => unknown(),
         }
     }
@@ -158,28 +189,42 @@ impl Program {
                 let sizes = variants
                     .iter()
                     .map(|(_, fields)| self.size_of_fields(place, fields, depth));
-                let sizes = sizes.collect::<Result<Vec<_>, _>>()?;
-                let largest = Size {
-                    bytes: sizes.iter().map(|size| size.bytes).max().unwrap_or(0),
-                    align: sizes.iter().map(|size| size.align).max().unwrap_or(1),
-                };
-                Ok(side_by_side(&[largest, Size { bytes: 1, align: 1 }]))
+                Ok(one_of(&sizes.collect::<Result<Vec<_>, _>>()?))
             }
             Item::Alias { stands_for } => {
-                self.size_of_fields(place, std::slice::from_ref(stands_for), depth)
+                self.size_of_fields(place, &[(String::new(), stands_for.clone())], depth)
             }
             _ => Err(format!("takes `{}` for a type", self.name(place))),
         }
     }
 
-    fn size_of_fields(&self, place: &Place, fields: &[Span], depth: usize) -> Result<Size, String> {
+    fn size_of_fields(
+        &self,
+        place: &Place,
+        fields: &[Field],
+        depth: usize,
+    ) -> Result<Size, String> {
         let mut sizes = Vec::new();
-        for field in fields {
+        for (_, field) in fields {
             let of = read(self, &place.module, field.clone()).map_err(|trouble| trouble.what)?;
             sizes.push(self.size(&place.module, &of, depth)?);
         }
         Ok(side_by_side(&sizes))
     }
+}
+
+/// Whether this is one of the language's two types for an answer or none.
+pub fn is_wrapper(path: &[String]) -> bool {
+    path.len() == 1 && ["Option", "Result"].contains(&path[0].as_str())
+}
+
+/// The size of one of several, with the byte that says which.
+fn one_of(sizes: &[Size]) -> Size {
+    let largest = Size {
+        bytes: sizes.iter().map(|size| size.bytes).max().unwrap_or(0),
+        align: sizes.iter().map(|size| size.align).max().unwrap_or(1),
+    };
+    side_by_side(&[largest, Size { bytes: 1, align: 1 }])
 }
 
 /// The size of fields in their order, each at a multiple of its own.

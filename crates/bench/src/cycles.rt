@@ -1,206 +1,100 @@
 // A PDU's way over the trunk, from the offer to the reply.
 use crate::{datagrams, lines};
-use trunk::{Arrival, Far, Load, Near, Offer, Reply, Sent, far_end, kinds, near_end};
+use trunk::{Arrival, Far, Load, Near, far_end, kinds, near_end, records};
 
 const UNIT: u16 = 1;
-
-// The store's length, and a reply's.
-const STORE: usize = trunk::near_end::STORE_SIZE;
-
-const REPLY: usize = trunk::records::HEAD_SIZE;
 
 // Room for any record, and so for any datagram that the trunk carries.
 const ROOM: usize = kinds::LONGEST_RECORD;
 
-// Both ends, and a sum of what the calls answered.
-#[derive(Clone, Copy)]
-struct Ends {
+// Both ends, the buffers that are lent to them, and a sum of what the calls answered.
+#[derive(Drop)]
+struct Trunk {
     near: Near,
     far: Far,
+    store: [u8; near_end::STORE_SIZE],
+    record: [u8; ROOM],
+    out: [u8; ROOM],
+    reply: [u8; records::HEAD_SIZE],
     sum: u64,
 }
 
-fn fresh() -> Ends {
-    let made = far_end::new(0, 0, 1);
-    let far = made.far;
-    Ends {
-        near: near_end::new(),
-        far,
-        sum: 0,
+impl Trunk {
+    fn new() -> Trunk {
+        Trunk {
+            near: near_end::new(),
+            far: far_end::new(0, 0, 1).far,
+            store: [0u8; near_end::STORE_SIZE],
+            record: [0u8; ROOM],
+            out: [0u8; ROOM],
+            reply: [0u8; records::HEAD_SIZE],
+            sum: 0,
+        }
+    }
+
+    // Offers a datagram and sends its record: the record's size. None where one of them refuses.
+    fn launch(&mut self, datagram: &[u8]) -> Option<usize> {
+        let offered = near_end::offer(self.near, &mut self.store, datagram);
+        self.near = offered.near;
+        let number = offered.answer.ok()?;
+        let sending = near_end::send(self.near, &self.store, number, &mut self.record);
+        self.near = sending.near;
+        sending.answer.ok()
+    }
+
+    // One cycle of a datagram. None where a call refuses. The sum takes a byte of the PDU put out too: another in each cycle.
+    fn cycle(&mut self, datagram: &[u8]) -> Option<()> {
+        let size = self.launch(datagram)?;
+        let record = self.record.get(..size)?;
+        let arrived = far_end::arrive(self.far, record, &mut self.reply, &mut self.out);
+        self.far = arrived.far;
+        let Ok(Arrival::Delivered { size, answer }) = arrived.answer else {
+            return None;
+        };
+        let replied = near_end::take_reply(self.near, &self.reply);
+        self.near = replied.near;
+        let count = replied.answer.ok()?;
+        let byte = self.out[(count % 128) as usize];
+        for answered in [
+            size as u64,
+            u64::from(answer.number()),
+            u64::from(count),
+            u64::from(byte),
+        ] {
+            self.sum = self.sum.wrapping_add(answered);
+        }
+        Some(())
     }
 }
 
-// The sum with what one cycle answered, and a byte of the PDU put out: another in each cycle.
-fn added(sum: u64, size: usize, answer: u8, count: u32, byte: u8) -> u64 {
-    let sum = sum.wrapping_add(size as u64);
-    let sum = sum.wrapping_add(answer as u64);
-    let sum = sum.wrapping_add(count as u64);
-    sum.wrapping_add(byte as u64)
-}
-
-// The near end after an offer and a send, and the size of the record sent; 0 where one of them refuses.
-#[derive(Clone, Copy)]
-struct Launched {
-    near: Near,
-    size: usize,
-}
-
-// Sends a number's record.
-fn send(near: Near, number: u32, store: &[u8; STORE], record: &mut [u8; ROOM]) -> Launched {
-    let sending = near_end::send(near, store, number, record);
-    let near = sending.near;
-    let answer = sending.answer;
-    match answer {
-        Sent::Refused(_) => Launched { near, size: 0 },
-        Sent::Size(size) => Launched { near, size },
+// The kind's datagram, written at the start of `out`. None where no PDU of this kind is timed.
+fn datagram(kind: u8, out: &mut [u8]) -> Option<&[u8]> {
+    match kinds::load(kind)? {
+        Load::Words(n) => datagrams::ppli(UNIT, n, out),
+        Load::Transmitter => datagrams::transmitter(UNIT, out),
+        Load::Interrogation | Load::TimingReply | Load::Nothing => None,
     }
 }
 
-// Offers a datagram and sends its record.
-fn launch(
-    near: Near,
-    datagram: &[u8],
-    store: &mut [u8; STORE],
-    record: &mut [u8; ROOM],
-) -> Launched {
-    let offered = near_end::offer(near, store, datagram);
-    let near = offered.near;
-    let answer = offered.answer;
-    match answer {
-        Offer::Refused(_) => Launched { near, size: 0 },
-        Offer::Taken(number) => send(near, number, store, record),
-    }
-}
-
-// The near end after a reply, and the sum.
-#[derive(Clone, Copy)]
-struct Landed {
-    near: Near,
-    sum: u64,
-}
-
-// Takes the reply to a PDU that was put out.
-fn land(near: Near, sum: u64, arrival: Arrival, reply: &[u8; REPLY], out: &[u8; ROOM]) -> Landed {
-    let Arrival::Delivered { size, answer } = arrival else {
-        return Landed { near, sum };
-    };
-    let replied = near_end::take_reply(near, reply);
-    let after = replied.near;
-    let taken = replied.answer;
-    let Reply::Acknowledged(count) = taken else {
-        return Landed { near: after, sum };
-    };
-    let byte = out[(count % 128) as usize];
-    Landed {
-        near: after,
-        sum: added(sum, size, answer, count, byte),
-    }
-}
-
-// One cycle of a datagram.
-fn cycle(
-    ends: Ends,
-    datagram: &[u8],
-    store: &mut [u8; STORE],
-    record: &mut [u8; ROOM],
-    out: &mut [u8; ROOM],
-    reply: &mut [u8; REPLY],
-) -> Ends {
-    let near = ends.near;
-    let far = ends.far;
-    let launched = launch(near, datagram, store, record);
-    let near = launched.near;
-    let arrived = far_end::arrive(far, lines::first(record, launched.size), reply, out);
-    let far = arrived.far;
-    let arrival = arrived.answer;
-    let landed = land(near, ends.sum, arrival, reply, out);
-    let near = landed.near;
-    Ends {
-        near,
-        far,
-        sum: landed.sum,
-    }
-}
-
-// So many cycles of one datagram.
-fn cycles(
-    start: Ends,
-    datagram: &[u8],
-    times: u64,
-    store: &mut [u8; STORE],
-    record: &mut [u8; ROOM],
-    out: &mut [u8; ROOM],
-    reply: &mut [u8; REPLY],
-) -> Ends {
-    let mut ends = start;
-    for _ in 0..times {
-        ends = cycle(ends, datagram, store, record, out, reply);
-    }
-    ends
-}
-
-// The kind's datagram in `out`: its size, or 0 where no PDU has this kind.
-fn put_datagram(kind: u64, out: &mut [u8]) -> usize {
-    if kind > u8::MAX as u64 {
-        return 0;
-    }
-    match kinds::load(kind as u8) {
-        Load::Words(n) => datagrams::put_ppli(UNIT, n as usize, out),
-        Load::Transmitter => datagrams::put_transmitter(UNIT, out),
-        Load::Interrogation => 0,
-        Load::TimingReply => 0,
-        Load::Nothing => 0,
-        Load::Unknown => 0,
-    }
-}
-
-// One cycle of the first datagram, then so many of the second, from fresh ends.
-fn cycles_of(first: &[u8], second: &[u8], times: u64) -> Ends {
-    let mut store = [0u8; STORE];
-    let mut record = [0u8; ROOM];
-    let mut out = [0u8; ROOM];
-    let mut reply = [0u8; REPLY];
-    let ends = cycle(
-        fresh(),
-        first,
-        &mut store,
-        &mut record,
-        &mut out,
-        &mut reply,
-    );
-    cycles(
-        ends,
-        second,
-        times,
-        &mut store,
-        &mut record,
-        &mut out,
-        &mut reply,
-    )
-}
-
-// `cycle KIND TIMES`: one cycle of a Transmitter, so that the far station knows the unit, then as many as are asked for.
-pub fn run(rt: &HostRuntime, kind: u64, times: u64) -> bool {
+// `cycle KIND TIMES ACCEPTED ACKNOWLEDGED DELIVERED SUM`: one cycle of a Transmitter, so that the far station knows the unit, then as many of the
+// kind's datagram as are asked for. A cycle that is refused adds nothing.
+pub fn run(rt: &HostRuntime, kind: u8, times: u64) -> Option<()> {
     let mut first = [0u8; ROOM];
     let mut second = [0u8; ROOM];
-    let m = datagrams::put_transmitter(UNIT, &mut first);
-    let n = put_datagram(kind, &mut second);
-    if n == 0 {
-        return false;
+    let transmitter = datagrams::transmitter(UNIT, &mut first)?;
+    let datagram = datagram(kind, &mut second)?;
+    let mut trunk = Trunk::new();
+    let _ = trunk.cycle(transmitter);
+    for _ in 0..times {
+        let _ = trunk.cycle(datagram);
     }
-    let ends = cycles_of(lines::first(&first, m), lines::first(&second, n), times);
-    show(rt, kind, times, ends);
-    true
-}
-
-// `cycle KIND TIMES ACCEPTED ACKNOWLEDGED DELIVERED SUM`
-fn show(rt: &HostRuntime, kind: u64, times: u64, ends: Ends) {
-    let near = ends.near;
-    let far = ends.far;
-    lines::show_job(rt, b"cycle", kind, times);
-    lines::show_field(rt, near_end::accepted(near) as u64);
-    lines::show_field(rt, near_end::acknowledged(near) as u64);
-    lines::show_field(rt, far_end::count(far) as u64);
-    lines::show_field(rt, ends.sum);
-    lines::end_line(rt);
+    let accepted = near_end::accepted(trunk.near);
+    let acknowledged = near_end::acknowledged(trunk.near);
+    let delivered = far_end::count(trunk.far);
+    let sum = trunk.sum;
+    lines::show(
+        rt,
+        format_args!("cycle {kind} {times} {accepted} {acknowledged} {delivered} {sum}"),
+    );
+    Some(())
 }

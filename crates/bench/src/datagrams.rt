@@ -1,6 +1,6 @@
 // The datagrams of the jobs, as the writer gives them: a unit's Transmitter and its PPLI, with 0 in all fields that the jobs do not need.
-use crate::lines;
-use pdu::{Antenna, Emission, Entity, Header, Network, Signal, Sync, Transmitter, Written};
+// Each 0 is written out: `Default` would have to stand on the records of `pdu`, for this program alone.
+use pdu::{Antenna, Emission, Entity, Header, Network, Signal, Sync, Transmitter};
 
 // The longest type 0 body.
 const BODY: usize = pdu::BODY_HEADER + pdu::MOST_WORDS * pdu::WORD_BYTES;
@@ -13,7 +13,7 @@ const PPLI_LABEL: u8 = 8;
 // A unit's number is its entity's.
 fn header(unit: u16) -> Header {
     Header {
-        version: 6,
+        version: pdu::NEWER_VERSION,
         exercise: 1,
         timestamp: 0,
         status: 0,
@@ -25,7 +25,7 @@ fn header(unit: u16) -> Header {
 }
 
 // A Transmitter of level 0 that is fine.
-fn transmitter(unit: u16) -> Transmitter {
+fn transmitter_of(unit: u16) -> Transmitter {
     let header = header(unit);
     let entity = Entity {
         kind: 0,
@@ -54,9 +54,9 @@ fn transmitter(unit: u16) -> Transmitter {
     };
     let sync = Sync {
         level: 0,
-        primary: 1,
+        primary: pdu::FIRST_PRIMARY_MODE,
         secondary: 0,
-        state: 3,
+        state: pdu::FINE,
         id: 0,
     };
     Transmitter {
@@ -69,7 +69,7 @@ fn transmitter(unit: u16) -> Transmitter {
 }
 
 // A Signal on net 0.
-fn signal(unit: u16) -> Signal {
+fn signal_of(unit: u16) -> Signal {
     let header = header(unit);
     let network = Network {
         npg: 0,
@@ -90,26 +90,19 @@ fn signal(unit: u16) -> Signal {
     }
 }
 
-// The bytes written, or 0.
-fn size(written: Written) -> usize {
-    match written {
-        Written::Refused(_) => 0,
-        Written::Size(n) => n,
-    }
+// A unit's Transmitter, written at the start of `out`.
+pub fn transmitter(unit: u16, out: &mut [u8]) -> Option<&[u8]> {
+    let n = writer::write_transmitter(transmitter_of(unit), out).ok()?;
+    let written = &*out;
+    written.get(..n)
 }
 
-// Writes a unit's Transmitter: its size.
-pub fn put_transmitter(unit: u16, out: &mut [u8]) -> usize {
-    size(writer::write_transmitter(transmitter(unit), out))
-}
-
-// Writes a Signal of so many words, the first of them a PPLI's: its size.
-pub fn put_ppli(unit: u16, words: usize, out: &mut [u8]) -> usize {
-    if pdu::MOST_WORDS < words {
-        return 0;
-    }
+// A Signal of so many words, the first of them a PPLI's, written at the start of `out`.
+pub fn ppli(unit: u16, words: u16, out: &mut [u8]) -> Option<&[u8]> {
     let mut body = [0u8; BODY];
     body[LABEL_PLACE] = PPLI_LABEL;
-    let n = pdu::BODY_HEADER + pdu::WORD_BYTES * words;
-    size(writer::write_signal(signal(unit), lines::first(&body, n), out))
+    let body = body.get(..pdu::BODY_HEADER + pdu::WORD_BYTES * usize::from(words))?;
+    let n = writer::write_signal(signal_of(unit), body, out).ok()?;
+    let written = &*out;
+    written.get(..n)
 }

@@ -8,43 +8,24 @@ mod datagrams;
 mod lines;
 mod stations;
 
-use lines::{Line, Task};
+use lines::Job;
 use text::lines::INPUT;
 
-// Runs the job of a line, and answers whether it can be run.
-fn run_job(rt: &HostRuntime, line: Line) -> bool {
-    let task = line.task;
-    match task {
-        Task::Cycle => cycles::run(rt, line.size, line.times),
-        Task::Heard => stations::run(rt, line.size, line.times),
-        Task::Unknown => false,
+// Runs the job of a line, which ends in a line end. None where it cannot be run.
+fn run(rt: &HostRuntime, line: &[u8]) -> Option<()> {
+    match lines::read(line.strip_suffix(b"\n")?)? {
+        Job::Cycle { kind, times } => cycles::run(rt, kind, times),
+        Job::Heard { units, times } => stations::run(rt, units, times),
     }
 }
 
-// Runs the line that a text starts with: its length, or 0 where it cannot be run.
-fn run_line(rt: &HostRuntime, text: &[u8]) -> usize {
-    let line = lines::read(text);
-    let length = line.length;
-    if length == 0 {
-        return 0;
-    }
-    if run_job(rt, line) { length } else { 0 }
-}
-
-// Runs every line, up to the first that cannot be run.
+// Runs every line, up to the first that cannot be run. `text::lines::run` takes a last line without its end too, and tells a read that fails in the
+// system's words, as `text::show::line` does.
 fn run_all(rt: &HostRuntime, input: &[u8]) {
-    let mut number = 0;
-    let mut at = 0;
-    while at < input.len() {
-        number += 1;
-        let length = run_line(rt, &input[at..]);
-        if length == 0 {
-            return lines::show_bad(rt, number);
+    for (before, line) in input.split_inclusive(|c| *c == b'\n').enumerate() {
+        if run(rt, line).is_none() {
+            return lines::show(rt, format_args!("bad line {}", before + 1));
         }
-        if input.len() - at < length {
-            return;
-        }
-        at += length;
     }
 }
 
@@ -52,5 +33,5 @@ fn run_all(rt: &HostRuntime, input: &[u8]) {
 fn main(rt: HostRuntime) {
     let mut input = [0u8; INPUT];
     let n = text::lines::read_full(&rt, &mut input);
-    run_all(&rt, lines::first(&input, n));
+    run_all(&rt, &input[..n]);
 }

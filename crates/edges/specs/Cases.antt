@@ -44,7 +44,7 @@ pub data Case : Type 0 where
 
 -- whether reading answered a Signal with the epoch and slot given
 abbrev pub slot_is : Reading → ℕ → ℕ → Bool
-slot_is (Refused n) epoch slot = false
+slot_is (Refused refusal) epoch slot = false
 slot_is (Transmitter t) epoch slot = false
 slot_is (Signal s n) epoch slot = eqb s.network.epoch epoch && eqb s.network.slot slot
 

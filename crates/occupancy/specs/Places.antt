@@ -1,5 +1,5 @@
 -- The occupancy word: sixteen places, place i held exactly where bit i of the word is 1.
-use Rattle.std.specs.Prelude.{ℕ, zero, suc, ◌+◌, ◌/◌, ◌%◌, ◌^◌, Bool, cond, not, eqb}
+use Rattle.std.specs.Prelude.{ℕ, zero, suc, ◌+◌, ◌/◌, ◌%◌, ◌^◌, Bool, cond, not, Option, MatchOption, ◌<◌, ◌≡◌, eqb}
 
 -- 01, "16 places for units"
 abbrev pub places : ℕ
@@ -22,6 +22,10 @@ count p (suc n) = cond (p zero) 1 0 + count (λ i. p (suc i)) n
 -- the lowest-numbered free place, 16 where none is free (01, "A new entry takes the lowest-numbered free place")
 abbrev pub free_place : ℕ → ℕ
 free_place w = least (λ i. not (held w i)) places
+
+-- what a search for place i answers: the place, or none where that is 16, past them all
+abbrev pub Finds : Option ℕ → ℕ → Type 0
+Finds answer i = MatchOption answer (i ≡ places) (λ k. (k ≡ i) × (k < places))
 
 -- how many places are held
 abbrev pub held_count : ℕ → ℕ

@@ -18,13 +18,14 @@ use Rattle.wire.proofs.FirstLaws.{first-lacks, first_past, first-without, withou
 use Rattle.pdu.specs.Rules.{is_retired, access_rules, slot_rules, network_rules, live_rules, body_rules, inner_rules}
 use Rattle.pdu.specs.Forms.{size_of}
 use Rattle.pdu.specs.Reading.{signal_of, body_size, content, start_rules, transmitter_layout, signal_layout, layout_rules, form_rules, Laid}
-use Rattle.pdu.specs.Reading.{reading_rules, refusal, answer_by, reading, number_of, reading_says, archive_rules, archive_refusal, archive_reading}
-use Rattle.pdu.specs.Reading.{archive_says}
+use Rattle.pdu.specs.Reading.{reading_rules, refusal, answer_by, reading, reading_says, archive_rules, archive_refusal, archive_reading}
+use Rattle.pdu.specs.Reading.{archive_says, RefusedAs}
 use Rattle.pdu.specs.Plain.{plain_body_at, ArchiveBeside}
+use Rattle.pdu.specs.Refusals.{named}
 use Rattle.pdu.specs.declared.Reading.{Reading}
 use Rattle.pdu.specs.declared.Reading.TheVariants.{Refused, Signal as a_signal}
 use Rattle.pdu.proofs.Agreement.{content-transmitter, content-signal, body-verdict}
-use Rattle.pdu.proofs.Answers.{answer-taken, answer-refused, answers_as, answers-refused, answer-number, answer_says, refuses_as}
+use Rattle.pdu.proofs.Answers.{answer-taken, answer-refused, answers_as, answers-numbered, answer_says, refusal_known, archive_known}
 use Rattle.pdu.proofs.ReadLaws.{start_next, taken_laid, laid_signal, laid_size}
 
 -- whether a number is 50
@@ -88,23 +89,16 @@ pub archive-taken : (d : List ℕ) → archive_refusal d ≡ 0 → archive_readi
 unfolding archive_reading
 archive-taken d e = answer-taken (archive_refusal d) d e
 
-pub archive-refused : (d : List ℕ) → archive_refusal d ≢ 0 → archive_reading d ≡ Refused (archive_refusal d)
+pub archive-refused : (d : List ℕ) → archive_refusal d ≢ 0 → archive_reading d ≡ Refused (named (archive_refusal d))
 unfolding archive_reading
 archive-refused d e = answer-refused (archive_refusal d) d e
 
 pub archive_says_lem : (d : List ℕ) → reading_says (archive_reading d) ≡ archive_says d
 unfolding archive_reading
-archive_says_lem d = answer_says (archive_refusal d) d
-
-pub archive-number : (d : List ℕ) → number_of (archive_reading d) ≡ archive_refusal d
-unfolding archive_reading
-archive-number d = answer-number (archive_refusal d) d
+archive_says_lem d = answer_says (archive_refusal d) d (archive_known d)
 
 pub archive-size : (d : List ℕ) → archive_refusal d ≡ 0 → size_of (archive_reading d) ≡ num 2 8 d
 archive-size d e = ap size_of (archive-taken d e) ∙ sym (laid_size d (archive_laid d e))
-
-pub archive-no-size : (d : List ℕ) → archive_refusal d ≢ 0 → size_of (archive_reading d) ≡ 0
-archive-no-size d e = ap size_of (archive-refused d e)
 
 -- ---- beside live reading
 
@@ -123,16 +117,23 @@ there_taken d e = (
   λ none. archive-taken d (archive-behind d e ∙ none) ∙ content-signal d (is_signal d e),
 )
 
+-- live reading answers 50 exactly where that is its number
+fifty : (d : List ℕ) → RefusedAs 50 (reading d) ↔ (refusal d ≡ 50)
+unfolding reading
+fifty d =
+    let numbered = answers-numbered (refusal d) d 50 (refusal_known d) in
+    (λ e. (numbered.0 e).0, λ e. numbered.1 (e, λ none. omega arith))
+
 pub archive_beside : (d : List ℕ) → ArchiveBeside d
 unfolding reading archive_reading
 archive_beside d =
     record {
       elsewhere = λ other.
-          ap (λ (n : ℕ). answer_by n d) (archive_same d (λ e. other ((refuses_as d 50).1 (e, λ z. omega arith))));
-      taken_there = λ e. Iff.trans (there_taken d ((refuses_as d 50).0 e).0) (body-verdict d).none;
+          ap (λ (n : ℕ). answer_by n d) (archive_same d (λ e. other ((fifty d).1 e)));
+      taken_there = λ e. Iff.trans (there_taken d ((fifty d).0 e)) (body-verdict d).none;
       refused_there = λ e n.
-          let behind = archive-behind d ((refuses_as d 50).0 e).0 in
-          Iff.trans (answers-refused (archive_refusal d) d n)
+          let behind = archive-behind d ((fifty d).0 e) in
+          Iff.trans (answers-numbered (archive_refusal d) d n (archive_known d))
           (subst (λ (m : ℕ). ((m ≡ n) × (n ≢ 0)) ↔ FirstBroken n (plain_body_at d)) (sym behind) ((body-verdict d).some n));
-      never_50 = λ e. eqb-false (archive_refusal d) 50 (not_fifty d) ((answers-refused (archive_refusal d) d 50).0 e).0;
+      never_50 = λ e. eqb-false (archive_refusal d) 50 (not_fifty d) ((answers-numbered (archive_refusal d) d 50 (archive_known d)).0 e).0;
     }

@@ -25,7 +25,10 @@ use Rattle.pdu.specs.Forms.{body_values, body_cleared, bytes_of_body}
 use Rattle.pdu.specs.Bodies.{body_written}
 use Rattle.pdu.specs.Plain.{TimingRule}
 use Rattle.pdu.specs.Places.{plain_given}
-use Rattle.pdu.proofs.WordLaws.{plain}
+
+-- a number alone in its place
+alone : (x : ℕ) → x * 1 + 0 ≡ x
+alone x = omega arith
 
 -- ---- the body's own slots
 
@@ -73,7 +76,7 @@ pub timing-clear : (body : List ℕ) → Bytes body → length body ≡ 6
     → clear 0 (timing_slots 6) body ≡ big 2 (num 2 0 body % 8) ++ drop 2 body
 timing-clear body b six =
     append-nil (big 6 (num 6 0 body / 1 % 2 ^ 35 * 1 + 0))
-    ∙ ap (big 6) (plain (num 6 0 body / 1 % 2 ^ 35) ∙ timing-number body b)
+    ∙ ap (big 6) (alone (num 6 0 body / 1 % 2 ^ 35) ∙ timing-number body b)
     ∙ big-append 2 4 (num 2 0 body % 8) (num 4 2 body) (num-lt 4 2 body b)
     ∙ ap (λ (l : List ℕ). big 2 (num 2 0 body % 8) ++ l) (big-num 4 2 body b (omega arith) ∙ take_all 4 (drop 2 body) (omega (arith, length-drop 2 body)))
 

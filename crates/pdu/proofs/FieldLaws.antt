@@ -10,6 +10,7 @@ use lib.Dec.{ltb}
 use borrow.Author.Tests.{lt-ltb, le-ltb, ltb-true, ltb-false}
 use native.Mathlib.Nat.{div-one}
 use native.Mathlib.Omega.{arith}
+use Rattle.std.specs.Prelude.{Option, Some}
 use Rattle.wire.specs.Bytes.{num}
 use Rattle.pdu.specs.Forms.{body_in}
 use Rattle.pdu.specs.Reading.{header_of, transmitter_of, signal_of, body_of, reading}
@@ -17,7 +18,6 @@ use Rattle.pdu.specs.Timing.{timing_at, timing_says}
 use Rattle.pdu.specs.Words.{words_in, word_at, word_says}
 use Rattle.pdu.specs.Fields.{HeaderFields, TransmitterFields, SignalFields, WordParts, plain_word, plain_timing}
 use Rattle.pdu.specs.declared.Word.{Word}
-use Rattle.pdu.specs.declared.Word.TheVariants.{Here}
 use Rattle.pdu.specs.declared.Transmitter.{Transmitter}
 use Rattle.pdu.specs.declared.Signal.{Signal}
 use Rattle.pdu.specs.declared.Reading.{Reading}
@@ -94,12 +94,16 @@ signal-fields d s n e =
     subst (λ (g : Signal). SignalFields d g n (body_of d)) (sym same)
     (signal-places d n (body_of d) bits (ap (λ (r : Reading). body_in r d) holds))
 
+-- a word of these parts
+abbrev word_of : ℕ → ℕ → ℕ → Word
+word_of format label sublabel = record { format = format; label = label; sublabel = sublabel }
+
 -- the parts of every word of every body, and that there is none behind the last
 pub word_parts : (body : List ℕ) (i : ℕ) → WordParts body i
 unfolding word_at
 word_parts body i =
     let v : ℕ = num 10 (6 + 10 * i) body in
-    let of_format : ℕ → Word = λ f. Here (f % 2 ^ 2) (v / 2 ^ 2 % 2 ^ 5) (v / 2 ^ 7 % 2 ^ 3) in
+    let of_format : ℕ → Option Word = λ f. Some (word_of (f % 2 ^ 2) (v / 2 ^ 2 % 2 ^ 5) (v / 2 ^ 7 % 2 ^ 3)) in
     record {
       here = λ long. rw (lt-ltb i (words_in (length body)) (omega arith)) (ap of_format (div-one v));
       absent = λ short. rw (le-ltb i (words_in (length body)) (omega arith));

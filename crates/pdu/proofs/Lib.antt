@@ -1,5 +1,5 @@
 -- Laws and theorems of the PDU part that belong to no one function.
-pub mod WordLaws
+pub mod RefusalLaws
 pub mod Agreement
 pub mod Answers
 pub mod VersionLaws

@@ -11,6 +11,7 @@ use lib.ListN.{length, get_or, take, drop, replicate}
 use lib.Dec.{eqb}
 use native.Mathlib.Nat.{div-one}
 use native.Mathlib.Omega.{arith}
+use Rattle.std.specs.Prelude.{Result, Ok, Err}
 use Rattle.wire.specs.Bytes.{num, big, span, joined, Bytes}
 use Rattle.wire.specs.First.{first}
 use Rattle.wire.specs.Table.{keep, skip, clean, clear, sound}
@@ -28,11 +29,11 @@ use Rattle.pdu.specs.Places.{plain_status, plain_transmitter_zero, data_end, pla
 use Rattle.pdu.specs.Places.{TransmitterBytes, SignalBytes, OutputExactly}
 use Rattle.pdu.specs.Fits.{FitsTransmitter, FitsSignal}
 use Rattle.pdu.specs.RoundTrips.{ReadsBack}
+use Rattle.pdu.specs.Refusals.{Refusal, named}
 use Rattle.pdu.specs.declared.Transmitter.{Transmitter}
 use Rattle.pdu.specs.declared.Signal.{Signal}
 use Rattle.pdu.specs.declared.Reading.{Reading}
 use Rattle.pdu.specs.declared.Reading.TheVariants.{Transmitter as a_transmitter, Signal as a_signal}
-use Rattle.pdu.specs.declared.Written.TheVariants.{Refused as NotWritten, Size}
 use Rattle.pdu.proofs.Agreement.{content-transmitter, content-signal}
 use Rattle.pdu.proofs.Answers.{Holds, reading-taken, reads_as, as_signal, taken_exactly_when}
 use Rattle.pdu.proofs.Taken.{signal_bounds, sound_form}
@@ -214,28 +215,26 @@ output_exactly r body out =
     let refused : ℕ = writing_refusal r (length out) in
     record {
       taken = λ n e. by_size n (eqb refused 0) refl e;
-      refused = λ n e. by_number n (eqb refused 0) refl e;
+      refused = λ f e. by_refusal f (eqb refused 0) refl e;
     }
   where
     by_size : (n : ℕ) (b : Bool)
         → eqb (writing_refusal r (length out)) 0 ≡ b
-        → written r (length out) ≡ Size n
+        → written r (length out) ≡ Ok n
         → (length (bytes_of r body) ≡ n) × (output_after r body out ≡ bytes_of r body ++ drop n out)
     by_size n true t e =
-        let same : Size (size_of r) ≡ Size n = rw t at e in
+        let same : ◌≡◌ {A = Result ℕ Refusal} (Ok (size_of r)) (Ok n) = rw t at e in
         let long : length (bytes_of r body) ≡ n = length_form r body ∙ cc in
         (long, rw t (ap (λ (k : ℕ). bytes_of r body ++ drop k out) long))
     by_size n false t e =
-        let other : NotWritten (writing_refusal r (length out)) ≡ Size n = rw t at e in
-        let z : ◌≡◌ {A = ℕ} 0 1 = cc in
-        absurd (omega arith)
+        let other : ◌≡◌ {A = Result ℕ Refusal} (Err (named (writing_refusal r (length out)))) (Ok n) = rw t at e in
+        cc
 
-    by_number : (n : ℕ) (b : Bool)
+    by_refusal : (f : Refusal) (b : Bool)
         → eqb (writing_refusal r (length out)) 0 ≡ b
-        → written r (length out) ≡ NotWritten n
+        → written r (length out) ≡ Err f
         → output_after r body out ≡ out
-    by_number n false t e = rw t refl
-    by_number n true t e =
-        let other : Size (size_of r) ≡ NotWritten n = rw t at e in
-        let z : ◌≡◌ {A = ℕ} 0 1 = cc in
-        absurd (omega arith)
+    by_refusal f false t e = rw t refl
+    by_refusal f true t e =
+        let other : ◌≡◌ {A = Result ℕ Refusal} (Ok (size_of r)) (Err f) = rw t at e in
+        cc

@@ -8,31 +8,31 @@ use mathlib.Core.Bool.{Bool, true, false, ◌&&◌, true≢false}
 use mathlib.Core.List.{List, ◌++◌}
 use lib.ListN.{length, take, drop, length-drop}
 use lib.Seq.{length-take-le}
-use lib.Dec.{eqb, leb}
-use borrow.Author.Tests.{eqb-true, eqb-false, eq-eqb, ne_eqb}
+use lib.Dec.{leb}
+use borrow.Author.Tests.{eqb-true, eqb-false}
 use native.Mathlib.Omega.{arith}
 use Rattle.wire.specs.Bytes.{num, splice}
 use Rattle.wire.proofs.ByteLaws.{splice-start}
-use Rattle.wire.specs.First.{first, lacks, numbered, without}
-use Rattle.wire.proofs.FirstLaws.{first_here, first_next, none_of, first-lacks, lacks-without}
-use Rattle.wire.specs.Table.{all_blank}
+use Rattle.wire.specs.First.{first, lacks, numbered}
+use Rattle.wire.proofs.FirstLaws.{first_here, first_next, none_of, first-lacks}
 use Rattle.wire.proofs.TableLaws.{both_true}
 use Rattle.wire.proofs.RuleLaws.{at_most, both}
+use Rattle.pdu.specs.Refusals.{Refusal, Short, number}
 use Rattle.pdu.specs.Numbers
 use Rattle.pdu.specs.Words.{words_in}
 use Rattle.pdu.specs.Rules.{access_rules, slot_rules, network_rules, live_rules, body_rules, inner_rules}
-use Rattle.pdu.specs.Forms.{table_of, bytes_of, size_of, body_in}
+use Rattle.pdu.specs.Forms.{bytes_of, size_of, body_in}
 use Rattle.pdu.specs.Tables.{signal_size}
-use Rattle.pdu.specs.Reading.{body_size, says_transmitter, content, body_of, wrong_length, start_rules, transmitter_layout, signal_layout}
-use Rattle.pdu.specs.Reading.{layout_rules, form_rules, Laid, reading_rules, refusal, reading, used, archive_rules, archive_refusal, archive_reading}
+use Rattle.pdu.specs.Reading.{body_size, says_transmitter, content, body_of, start_rules, transmitter_layout, signal_layout}
+use Rattle.pdu.specs.Reading.{layout_rules, form_rules, Laid, reading_rules, refusal, reading, used}
 use Rattle.pdu.specs.Plain.{RecordsRule, TimingRule, LiveRule, NoThirteen}
-use Rattle.pdu.specs.Writing.{record_rules, writing_rules, writing_refusal, output_after, written_form, written_as, in_written_form}
+use Rattle.pdu.specs.Writing.{output_after, written_form, in_written_form}
 use Rattle.pdu.specs.declared.Signal.{Signal}
 use Rattle.pdu.specs.declared.Reading.{Reading}
 use Rattle.pdu.specs.declared.Reading.TheVariants.{Refused, Transmitter as a_transmitter, Signal as a_signal}
-use Rattle.pdu.proofs.Agreement.{length_says, content-transmitter, content-signal, start-verdict, transmitter_layout_lem, signal_layout_lem}
+use Rattle.pdu.proofs.Agreement.{content-transmitter, content-signal, start-verdict, transmitter_layout_lem, signal_layout_lem}
 use Rattle.pdu.proofs.Agreement.{inner_record, signal_record}
-use Rattle.pdu.proofs.Answers.{Holds, answers-refused, reads_as, refuses_as, reading-taken, reading-refused, writes_refused}
+use Rattle.pdu.proofs.Answers.{Holds, reads_as, reading-taken}
 use Rattle.pdu.proofs.Taken.{Taken, taken, signal_bounds}
 use Rattle.pdu.proofs.RoundTrip.{length_form, written_form_back, written_back}
 
@@ -113,10 +113,6 @@ timing-size s n e =
     let (npg, (net, (tsec, (msec, (type, (slot, (epoch, (last, (live, ((words, six), rest)))))))))) = (inner_record s n).none.0 e in
     six
 
--- the size answered for a refused datagram is 0
-pub refused-size : (d : List ℕ) → refusal d ≢ 0 → size_of (reading d) ≡ 0
-refused-size d h = ap size_of (reading-refused d h)
-
 -- a datagram in written form is taken
 pub written-taken : (d : List ℕ) → in_written_form d ≡ true → refusal d ≡ 0
 unfolding in_written_form
@@ -135,10 +131,6 @@ start_next d e = first_next (start_rules d) (form_rules (content d) d) refl e
 pub start_here : (d : List ℕ) → first (start_rules d) ≢ 0 → refusal d ≡ first (start_rules d)
 unfolding refusal reading_rules
 start_here d e = first_here (start_rules d) (form_rules (content d) d) e
-
--- refusal 4 not given: the slice has the least length
-pub right-length : (least : ℕ) (d : List ℕ) → wrong_length least d ≡ false → least ≤ length d
-right-length least d e = let (same, enough) = (length_says least d).0 e in omega arith
 
 -- a Transmitter whose layout is right says its full size, and lies in the slice
 pub record TransmitterLaid (d : List ℕ) : Type 0 where
@@ -174,26 +166,8 @@ layout_numbered (Refused n) d = refl
 layout_numbered (a_transmitter t) d = refl
 layout_numbered (a_signal s n) d = refl
 
--- the layout's rules answer first, and leave the answer to the inner ones where none is broken
-pub form_here : (r : Reading) (d : List ℕ) → first (layout_rules r d) ≢ 0 → first (form_rules r d) ≡ first (layout_rules r d)
-form_here r d e = first_here (layout_rules r d) (inner_rules r) e
-
 pub form_next : (r : Reading) (d : List ℕ) → first (layout_rules r d) ≡ 0 → first (form_rules r d) ≡ first (inner_rules r)
 form_next r d e = first_next (layout_rules r d) (inner_rules r) (layout_numbered r d) e
-
--- a broken rule of the form: not in written form; none: as its size and its padding say
-pub not_written : (r : Reading) (d : List ℕ) → first (form_rules r d) ≢ 0 → written_as r d ≡ false
-not_written r d e = rw (ne_eqb (first (form_rules r d)) 0 e)
-
-pub not_alone : (r : Reading) (d : List ℕ) → length d ≢ size_of r → written_as r d ≡ false
-not_alone r d e = rw (ne_eqb (length d) (size_of r) e) (and-false (eqb (first (form_rules r d)) 0))
-  where
-    and-false : (b : Bool) → (b && false) ≡ false
-    and-false true = refl
-    and-false false = refl
-
-pub written-blank : (r : Reading) (d : List ℕ) → first (form_rules r d) ≡ 0 → length d ≡ size_of r → written_as r d ≡ all_blank 0 (table_of r) d
-written-blank r d e alone = rw (eq-eqb (first (form_rules r d)) 0 e, eq-eqb (length d) (size_of r) alone)
 
 -- a taken datagram has its layout
 pub taken_laid : (d : List ℕ) → refusal d ≡ 0 → Laid d
@@ -256,33 +230,14 @@ refusal_apart d k low high e = true≢false (sym inside ∙ reading-lacks is_oth
     by_form (a_transmitter t) = refl
     by_form (a_signal s n) = refl
 
--- 02, R-3: no 13
-abbrev is_thirteen : ℕ → Bool
-is_thirteen n = eqb n 13
-
-read-without : (d : List ℕ) (r : Reading) → lacks is_thirteen (start_rules d ++ form_rules r d) ≡ true
-unfolding start_rules transmitter_layout signal_layout inner_rules live_rules network_rules access_rules slot_rules body_rules
-read-without d (Refused n) = refl
-read-without d (a_transmitter t) = refl
-read-without d (a_signal s n) = refl
-
-write_without : (r : Reading) (room : ℕ) → lacks is_thirteen (writing_rules r room) ≡ true
-unfolding writing_rules record_rules inner_rules live_rules network_rules access_rules slot_rules body_rules
-write_without (Refused n) room = refl
-write_without (a_transmitter t) room = refl
-write_without (a_signal s n) room = refl
-
-archive-without : (d : List ℕ) → is_thirteen (archive_refusal d) ≡ false
-unfolding archive_rules archive_refusal reading_rules
-archive-without d =
-    first-lacks is_thirteen (without 50 (reading_rules d)) refl (lacks-without is_thirteen 50 (reading_rules d) (read-without d (content d)))
+-- 02, R-3: no refusal has the number 13
+not_thirteen : (e : Refusal) → number e ≢ 13
+not_thirteen Short q = absurd (omega arith)
+not_thirteen other q = absurd (omega arith)
 
 pub no_thirteen : NoThirteen
-unfolding archive_reading
 no_thirteen = record {
-  reading_gives = λ d n e q. eqb-false (refusal d) 13 (reading-lacks is_thirteen d (read-without d) refl) (((refuses_as d n).0 e).0 ∙ q);
-  archive_gives = λ d n e q. eqb-false (archive_refusal d) 13 (archive-without d) (((answers-refused (archive_refusal d) d n).0 e).0 ∙ q);
-  writing_gives = λ r room n e q.
-      eqb-false (writing_refusal r room) 13 (first-lacks is_thirteen (writing_rules r room) refl (write_without r room))
-      (((writes_refused r room n).0 e).0 ∙ q);
+  reading_gives = λ d e given. not_thirteen e;
+  archive_gives = λ d e given. not_thirteen e;
+  writing_gives = λ r room e given. not_thirteen e;
 }

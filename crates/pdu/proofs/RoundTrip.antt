@@ -6,13 +6,14 @@
 use Prim.Native.Nat.{ℕ, ◌≤◌, ◌<◌, ◌^◌}
 use mathlib.Core.Path.{◌≡◌, refl, sym, ap, ap₂, subst, ◌∙◌}
 use mathlib.Core.Logic.{◌↔◌, ◌⊎◌}
-use mathlib.Core.Bool.{Bool, true, false}
+use mathlib.Core.Bool.{Bool, true}
 use mathlib.Core.List.{List, [], ◌∷◌, ◌++◌, append-nil}
 use lib.ListN.{length, get_or, take, drop, replicate}
 use lib.Seq.{take_all, take_at, drop_at}
 use lib.Dec.{ltb}
-use borrow.Author.Tests.{eq-eqb, le-ltb, ltb-false}
+use borrow.Author.Tests.{eq-eqb, le-ltb}
 use native.Mathlib.Omega.{arith}
+use Rattle.std.specs.Prelude.{Some, Ok}
 use Rattle.wire.specs.Bytes.{Bytes}
 use Rattle.wire.specs.First.{first, ◌given_when◌, numbered}
 use Rattle.wire.specs.Table.{Slot, width, read, fill, all_fixed, all_blank, sound, Fit}
@@ -34,10 +35,8 @@ use Rattle.pdu.specs.RoundTrips.{WrittenBack, body_given, body_length, ReadsBack
 use Rattle.pdu.specs.Fits.{FitsTransmitter, FitsSignal, Fits}
 use Rattle.pdu.specs.declared.Transmitter.{Transmitter}
 use Rattle.pdu.specs.declared.Signal.{Signal}
-use Rattle.pdu.specs.declared.Timing.TheVariants.{Here}
 use Rattle.pdu.specs.declared.Reading.{Reading}
 use Rattle.pdu.specs.declared.Reading.TheVariants.{Refused, Transmitter as a_transmitter, Signal as a_signal}
-use Rattle.pdu.specs.declared.Written.TheVariants.{Size}
 use Rattle.pdu.proofs.Answers.{reading-taken, refusal-read}
 use Rattle.pdu.proofs.VersionLaws.{status_fits}
 use Rattle.pdu.proofs.BodyLaws.{timing_slots_lem, slots_width, given-values, body_fit, body_written_lem}
@@ -69,19 +68,6 @@ pub writes : (r : Reading) (room : ℕ) → first (record_rules r) ≡ 0 → siz
 unfolding writing_rules
 writes r room e fits = first_next (record_rules r) _ (record_numbered r) e ∙ rw (le-ltb room (size_of r) fits)
 
-pub writes_room : (r : Reading) (room : ℕ) → writing_refusal r room ≡ 0 → size_of r ≤ room
-unfolding writing_rules
-writes_room r room e = by (ltb room (size_of r)) refl
-  where
-    last : first ((16 given_when ltb room (size_of r)) ∷ []) ≡ 0
-    last = (none_of (record_rules r) _ (record_numbered r) e).1
-
-    by : (b : Bool) → ltb room (size_of r) ≡ b → size_of r ≤ room
-    by true t =
-        let z : ◌≡◌ {A = ℕ} 16 0 = rw t at last in
-        absurd (omega arith)
-    by false t = ltb-false _ _ t
-
 pub writes_rules : (r : Reading) (room : ℕ) → writing_refusal r room ≡ 0 → first (record_rules r) ≡ 0
 unfolding writing_rules
 writes_rules r room e = (none_of (record_rules r) _ (record_numbered r) e).0
@@ -102,7 +88,7 @@ written_back d out e fits =
     let yes = eq-eqb _ _ taken_by in
     let long : length (bytes_of r (body_of d)) ≡ used d = length_form r (body_of d) ∙ sym size in
     record {
-      answer = rw yes (ap Size (sym size));
+      answer = rw yes (ap (λ (n : ℕ). Ok n) (sym size));
       output = rw yes (ap₂ (λ (l : List ℕ) (n : ℕ). l ++ drop n out) (written_form_back d e) long);
     }
 
@@ -267,7 +253,7 @@ reads_back r body room f b long e =
     }
 
 -- the field of round-trip timing, where a body has six bytes
-timing_here : (body : List ℕ) → length body ≡ 6 → timing_at body ≡ Here (get_or (read 0 (timing_slots 6) body) 0 0)
+timing_here : (body : List ℕ) → length body ≡ 6 → timing_at body ≡ Some (get_or (read 0 (timing_slots 6) body) 0 0)
 unfolding timing_at
 timing_here body six = rw six
 
@@ -290,7 +276,7 @@ timing_back s body room b e = record { same = same }
         let long : length written ≡ 6 = length-clear 0 (body_slots message n) body ∙ slots_width message n ∙ six timing in
         ap timing_at (again_body (a_signal s n) body)
         ∙ timing_here written long
-        ∙ ap (λ (l : List ℕ). Here (get_or l 0 0))
+        ∙ ap (λ (l : List ℕ). Some (get_or l 0 0))
         (ap (λ (t : List Slot). read 0 t written) (sym slots)
         ∙ given-values message n body b six
         ∙ ap (λ (t : List Slot). read 0 t body) slots)

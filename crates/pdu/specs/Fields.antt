@@ -1,9 +1,8 @@
 -- What a taken datagram and a word hold, field by field, at byte places and in literal numbers: the plain twin of the tables and the records.
 -- `num w o d` is the number in the w bytes of d from byte o on.
-use Rattle.std.specs.Prelude.{ℕ, ◌+◌, ◌*◌, ◌/◌, ◌%◌, ◌^◌, ◌≤◌, ◌<◌, ◌≡◌, ◌≢◌, cond, List, [], ◌∷◌, length, take, drop, ltb}
+use Rattle.std.specs.Prelude.{ℕ, ◌+◌, ◌*◌, ◌/◌, ◌%◌, ◌^◌, ◌≤◌, ◌<◌, ◌≡◌, ◌≢◌, cond, List, [], ◌∷◌, length, take, drop, ltb, Some, None}
 use Rattle.wire.specs.Bytes.{num}
 use Rattle.pdu.specs.Words.{word_at}
-use Rattle.pdu.specs.declared.Word.TheVariants.{Absent, Here}
 use Rattle.pdu.specs.declared.Header.{Header}
 use Rattle.pdu.specs.declared.Entity.{Entity}
 use Rattle.pdu.specs.declared.Antenna.{Antenna}
@@ -91,8 +90,13 @@ pub record WordParts (body : List ℕ) (i : ℕ) : Type 0 where
   pub here :
       16 + 10 * i ≤ length body
       → word_at body i
-      ≡ Here (num 10 (6 + 10 * i) body % 2 ^ 2) (num 10 (6 + 10 * i) body / 2 ^ 2 % 2 ^ 5) (num 10 (6 + 10 * i) body / 2 ^ 7 % 2 ^ 3)
-  pub absent : length body < 16 + 10 * i → word_at body i ≡ Absent
+      ≡ Some
+      record {
+        format = num 10 (6 + 10 * i) body % 2 ^ 2;
+        label = num 10 (6 + 10 * i) body / 2 ^ 2 % 2 ^ 5;
+        sublabel = num 10 (6 + 10 * i) body / 2 ^ 7 % 2 ^ 3;
+      }
+  pub absent : length body < 16 + 10 * i → word_at body i ≡ None
 
 -- the same as what is said of word i: its three parts, or nothing where the body ends before it does
 abbrev pub plain_word : List ℕ → ℕ → List ℕ

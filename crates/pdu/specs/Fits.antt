@@ -83,6 +83,6 @@ pub record FitsSignal (s : Signal) : Type 0 where
 
 -- the record that reading answered, or that writing is given; a refusal is none
 abbrev pub Fits : Reading → Type 0
-Fits (Refused n) = ⊥
+Fits (Refused e) = ⊥
 Fits (a_transmitter t) = FitsTransmitter t
 Fits (a_signal s n) = FitsSignal s

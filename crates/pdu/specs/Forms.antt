@@ -9,7 +9,7 @@ use Rattle.pdu.specs.declared.Reading.TheVariants.{Refused, Transmitter, Signal}
 
 -- the table of the whole PDU; a refusal has none
 abbrev pub table_of : Reading → List Slot
-table_of (Refused n) = []
+table_of (Refused e) = []
 table_of (Transmitter t) = transmitter_table (is_seven t.header.version)
 table_of (Signal s n) = signal_table (is_seven s.header.version) s.network.message_type n
 
@@ -23,7 +23,7 @@ body_cleared type n body = clear 0 (body_slots type n) body
 
 -- the values in the table's order, with the body given
 abbrev pub values_of : Reading → List ℕ → List ℕ
-values_of (Refused n) body = []
+values_of (Refused e) body = []
 values_of (Transmitter t) body = transmitter_values t
 values_of (Signal s n) body = signal_values s (body_values s.network.message_type n body)
 
@@ -37,12 +37,12 @@ bytes_of r body = fill (table_of r) (values_of r body)
 
 -- the size of the PDU; 0 where the datagram is refused
 abbrev pub size_of : Reading → ℕ
-size_of (Refused n) = 0
+size_of (Refused e) = 0
 size_of (Transmitter t) = Numbers.transmitter_size
 size_of (Signal s n) = signal_size n
 
 -- the body in a datagram of this form: "the part of the caller's datagram that starts at byte 52"
 abbrev pub body_in : Reading → List ℕ → List ℕ
-body_in (Refused n) d = []
+body_in (Refused e) d = []
 body_in (Transmitter t) d = []
 body_in (Signal s n) d = take n (drop Numbers.body_start d)

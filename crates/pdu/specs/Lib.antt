@@ -1,4 +1,5 @@
 -- What the PDU part means: the numbers of document 01, the tables, the records, reading, writing and words.
+pub mod Refusals
 pub mod Numbers
 pub mod Tables
 pub mod Records

@@ -1,6 +1,6 @@
 -- Which bits are padding, and what a PDU that is written holds at each place: at byte places and in literal numbers, beside the tables, which say
 -- the same slot by slot. `span a b d` are bytes a to b of d, b left out; `num w o d` is the number in the w bytes of d from byte o on.
-use Rattle.std.specs.Prelude.{ℕ, ◌+◌, ◌-◌, ◌/◌, ◌%◌, ◌≡◌, cond, ◌||◌, List, [], ◌∷◌, ◌++◌, length, get_or, drop, replicate, eqb}
+use Rattle.std.specs.Prelude.{ℕ, ◌+◌, ◌-◌, ◌/◌, ◌%◌, ◌≡◌, cond, ◌||◌, Ok, Err, List, [], ◌∷◌, ◌++◌, length, get_or, drop, replicate, eqb}
 use Rattle.wire.specs.Bytes.{num, span, joined}
 use Rattle.pdu.specs.Plain.{FixedRule, FilledTo}
 use Rattle.pdu.specs.Fields.{TransmitterFields, SignalFields}
@@ -9,7 +9,7 @@ use Rattle.pdu.specs.Writing.{written, output_after, padding_zero}
 use Rattle.pdu.specs.declared.Transmitter.{Transmitter}
 use Rattle.pdu.specs.declared.Signal.{Signal}
 use Rattle.pdu.specs.declared.Reading.{Reading}
-use Rattle.pdu.specs.declared.Written.TheVariants.{Refused, Size}
+use Rattle.pdu.specs.Refusals.{Refusal}
 
 -- ---- padding
 
@@ -34,8 +34,8 @@ plain_transmitter_zero d =
 abbrev pub data_end : List ℕ → ℕ
 data_end d = 32 + num 2 28 d / 8
 
--- a body with padding zero: that of types 1 and 2 (02, R-1; 001, Tables 5.2.5 and 5.2.6) begins with "bits 35 to 47", which are byte 52 of the PDU and
--- the upper five bits of byte 53; in all others nothing is padding
+-- a body with padding zero: that of types 1 and 2 (02, R-1; 001, Tables 5.2.5 and 5.2.6) begins with "bits 35 to 47", which are byte 52 of the PDU
+-- and the upper five bits of byte 53; in all others nothing is padding
 abbrev pub plain_given : ℕ → List ℕ → List ℕ
 plain_given type body = cond (eqb type 1 || eqb type 2) (0 ∷ get_or body 1 0 % 8 ∷ drop 2 body) body
 
@@ -86,5 +86,5 @@ pub record SignalBytes (s : Signal) (body z : List ℕ) : Type 0 where
 -- what a writing leaves in the output: the PDU "from the start of its output", by the size answered, and behind it what stood there; "A refusal
 -- changes .. no byte of any lent buffer"
 pub record OutputExactly (r : Reading) (body out : List ℕ) : Type 0 where
-  pub taken : (n : ℕ) → written r (length out) ≡ Size n → (length (bytes_of r body) ≡ n) × (output_after r body out ≡ bytes_of r body ++ drop n out)
-  pub refused : (n : ℕ) → written r (length out) ≡ Refused n → output_after r body out ≡ out
+  pub taken : (n : ℕ) → written r (length out) ≡ Ok n → (length (bytes_of r body) ≡ n) × (output_after r body out ≡ bytes_of r body ++ drop n out)
+  pub refused : (e : Refusal) → written r (length out) ≡ Err e → output_after r body out ≡ out

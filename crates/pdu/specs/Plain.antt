@@ -1,12 +1,12 @@
 -- Document 01's rules, in its order and in plain numbers at byte places, beside the tests of Rules, Reading and Writing: what a datagram must
 -- meet to be taken, and a record to be written. `num w o d` is the number in the w bytes of d from byte o on.
-use Rattle.std.specs.Prelude.{ℕ, ◌+◌, ◌-◌, ◌*◌, ◌/◌, ◌%◌, ◌^◌, ◌≤◌, ◌<◌, ◌≡◌, ◌↔◌, ◌⊎◌, ◌≢◌, List, [], ◌∷◌, ◌++◌, length}
+use Rattle.std.specs.Prelude.{ℕ, ◌+◌, ◌-◌, ◌*◌, ◌/◌, ◌%◌, ◌^◌, ◌≤◌, ◌<◌, ◌≡◌, ◌↔◌, ◌⊎◌, ◌≢◌, Ok, Err, List, [], ◌∷◌, ◌++◌, length}
 use Rattle.wire.specs.Bytes.{num}
 use Rattle.wire.specs.Rules.{Rule, ◌unless◌, Met, FirstBroken}
 use Rattle.pdu.specs.Forms.{size_of}
 use Rattle.pdu.specs.Writing.{written}
-use Rattle.pdu.specs.declared.Written.TheVariants.{Refused as NotWritten, Size}
-use Rattle.pdu.specs.Reading.{transmitter_of, signal_of, body_size, reading, archive_reading}
+use Rattle.pdu.specs.Refusals.{Refusal, number, RefusedBy}
+use Rattle.pdu.specs.Reading.{transmitter_of, signal_of, body_size, reading, archive_reading, RefusedAs}
 use Rattle.pdu.specs.declared.Transmitter.{Transmitter}
 use Rattle.pdu.specs.declared.Signal.{Signal}
 use Rattle.pdu.specs.declared.Network.{Network}
@@ -190,8 +190,8 @@ plain_signal_writing s n room =
 pub record TakenBy (answer : Reading) (signal : List Rule) (d : List ℕ) : Type 0 where
   pub transmitter_taken : ((t : Transmitter) × (answer ≡ a_transmitter t)) ↔ Met (plain_transmitter d)
   pub signal_taken : ((s : Signal) × (n : ℕ) × (answer ≡ a_signal s n)) ↔ Met signal
-  pub transmitter_refused : num 1 2 d ≡ 25 → (n : ℕ) → (answer ≡ Refused n) ↔ FirstBroken n (plain_transmitter d)
-  pub signal_refused : num 1 2 d ≢ 25 → (n : ℕ) → (answer ≡ Refused n) ↔ FirstBroken n signal
+  pub transmitter_refused : num 1 2 d ≡ 25 → (n : ℕ) → RefusedAs n answer ↔ FirstBroken n (plain_transmitter d)
+  pub signal_refused : num 1 2 d ≢ 25 → (n : ℕ) → RefusedAs n answer ↔ FirstBroken n signal
   pub transmitter_content : (t : Transmitter) → answer ≡ a_transmitter t → t ≡ transmitter_of d
   pub signal_content : (s : Signal) (n : ℕ) → answer ≡ a_signal s n → (s ≡ signal_of d) × (n ≡ body_size d)
 
@@ -205,18 +205,18 @@ ArchivedExactly d = TakenBy (archive_reading d) (plain_archive d) d
 
 -- 02, R-4: archive reading beside live reading. It "differs from it on nothing else" than 50, and where live reading gives that, 14 and 15 decide
 pub record ArchiveBeside (d : List ℕ) : Type 0 where
-  pub elsewhere : reading d ≢ Refused 50 → archive_reading d ≡ reading d
-  pub taken_there : reading d ≡ Refused 50 → (archive_reading d ≡ a_signal (signal_of d) (body_size d)) ↔ Met (plain_body_at d)
-  pub refused_there : reading d ≡ Refused 50 → (n : ℕ) → (archive_reading d ≡ Refused n) ↔ FirstBroken n (plain_body_at d)
-  pub never_50 : archive_reading d ≢ Refused 50
+  pub elsewhere : (RefusedAs 50 (reading d) → ⊥) → archive_reading d ≡ reading d
+  pub taken_there : RefusedAs 50 (reading d) → (archive_reading d ≡ a_signal (signal_of d) (body_size d)) ↔ Met (plain_body_at d)
+  pub refused_there : RefusedAs 50 (reading d) → (n : ℕ) → RefusedAs n (archive_reading d) ↔ FirstBroken n (plain_body_at d)
+  pub never_50 : RefusedAs 50 (archive_reading d) → ⊥
 
 -- what writing says of every record: written, with its size, exactly when every plain rule holds and there is room; else the first that does not
 pub record WrittenExactly (r : Reading) (plain : List Rule) (room : ℕ) : Type 0 where
-  pub written_size : (written r room ≡ Size (size_of r)) ↔ Met plain
-  pub refused : (n : ℕ) → (written r room ≡ NotWritten n) ↔ FirstBroken n plain
+  pub written_size : (written r room ≡ Ok (size_of r)) ↔ Met plain
+  pub refused : (n : ℕ) → RefusedBy n (written r room) ↔ FirstBroken n plain
 
 -- 02, R-3: each of the eight rules has a number of its own "in place of 13", which neither reading, archive reading too, nor writing gives any more
 pub record NoThirteen : Type 0 where
-  pub reading_gives : (d : List ℕ) (n : ℕ) → reading d ≡ Refused n → n ≢ 13
-  pub archive_gives : (d : List ℕ) (n : ℕ) → archive_reading d ≡ Refused n → n ≢ 13
-  pub writing_gives : (r : Reading) (room n : ℕ) → written r room ≡ NotWritten n → n ≢ 13
+  pub reading_gives : (d : List ℕ) (e : Refusal) → reading d ≡ Refused e → number e ≢ 13
+  pub archive_gives : (d : List ℕ) (e : Refusal) → archive_reading d ≡ Refused e → number e ≢ 13
+  pub writing_gives : (r : Reading) (room : ℕ) (e : Refusal) → written r room ≡ Err e → number e ≢ 13

@@ -1,14 +1,15 @@
--- Reading the first PDU of a slice (02, R-5): the refusals in document 01's order, and the answer; live reading, and archive reading of old captures (02, R-4).
-use Rattle.std.specs.Prelude.{ℕ, ◌+◌, ◌-◌, ◌*◌, ◌/◌, ◌%◌, ◌≡◌, Bool, cond, not, ◌&&◌, ◌||◌, List, [], ◌∷◌, ◌++◌, length, eqb, ltb}
+-- Reading the first PDU of a slice (02, R-5): the refusals in document 01's order, and the answer; live reading, and archive reading of old
+-- captures (02, R-4).
+use Rattle.std.specs.Prelude.{ℕ, ◌+◌, ◌-◌, ◌*◌, ◌/◌, ◌%◌, ◌≡◌, Bool, cond, not, ◌&&◌, ◌||◌, List, [], ◌∷◌, ◌++◌, length, eqb, ltb, Result, Ok, Err}
 use Rattle.wire.specs.Bytes.{num}
 use Rattle.wire.specs.First.{Refusal, ◌given_when◌, first, without, told}
 use Rattle.wire.specs.Table.{read}
+use Rattle.pdu.specs.Refusals.{Refusal as Reason, number, named}
 use Rattle.pdu.specs.Numbers
 use Rattle.pdu.specs.Tables.{filled, is_seven, header_table, transmitter_table, signal_head}
 use Rattle.pdu.specs.Records.{header_from, transmitter_from, transmitter_values, signal_from, signal_values}
 use Rattle.pdu.specs.Rules.{wrong_version, inner_rules}
 use Rattle.pdu.specs.Forms.{size_of, body_in}
-use Rattle.pdu.specs.declared.Answer.{Answer}
 use Rattle.pdu.specs.declared.Header.{Header}
 use Rattle.pdu.specs.declared.Transmitter.{Transmitter}
 use Rattle.pdu.specs.declared.Signal.{Signal}
@@ -107,7 +108,7 @@ signal_layout d =
 
 -- the layout's rules, by the form
 abbrev pub layout_rules : Reading → List ℕ → List Refusal
-layout_rules (Refused n) d = []
+layout_rules (Refused e) d = []
 layout_rules (a_transmitter t) d = transmitter_layout d
 layout_rules (a_signal s n) d = signal_layout d
 
@@ -127,9 +128,9 @@ reading_rules d = start_rules d ++ form_rules (content d) d
 unfoldable pub refusal : List ℕ → ℕ
 refusal d = first (reading_rules d)
 
--- the answer about a datagram by its refusal number: what it holds where that is 0, else the number
+-- the answer about a datagram by its refusal number: what it holds where that is 0, else the refusal that has the number
 abbrev pub answer_by : ℕ → List ℕ → Reading
-answer_by n d = cond (eqb n 0) (content d) (Refused n)
+answer_by n d = cond (eqb n 0) (content d) (Refused (named n))
 
 -- what reading answers
 unfoldable pub reading : List ℕ → Reading
@@ -141,17 +142,25 @@ used d = size_of (reading d)
 
 -- document 01's number of each answer of reading
 abbrev pub number_of : Reading → ℕ
-number_of (Refused n) = n
+number_of (Refused e) = number e
 number_of (a_transmitter t) = 0
 number_of (a_signal s n) = 0
 
--- number and size of each answer
-abbrev pub answer_of : Reading → Answer
-answer_of r = record { number = number_of r; size = size_of r }
+-- that an answer is the refusal of this number
+abbrev pub RefusedAs : ℕ → Reading → Type 0
+RefusedAs n (Refused e) = number e ≡ n
+RefusedAs n (a_transmitter t) = ⊥
+RefusedAs n (a_signal s size) = ⊥
+
+-- the size of what each answer holds, or its refusal
+abbrev pub answer_of : Reading → Result ℕ Reason
+answer_of (Refused e) = Err e
+answer_of (a_transmitter t) = Ok (size_of (a_transmitter t))
+answer_of (a_signal s n) = Ok (size_of (a_signal s n))
 
 -- the values of each answer: the fields in byte order, and last the size of a Signal's body
 abbrev pub values_held : Reading → List ℕ
-values_held (Refused n) = []
+values_held (Refused e) = []
 values_held (a_transmitter t) = transmitter_values t
 values_held (a_signal s n) = signal_values s (n ∷ [])
 

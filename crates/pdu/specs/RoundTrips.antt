@@ -1,5 +1,5 @@
 -- What demand 2's two round trips say, for every form of PDU alike.
-use Rattle.std.specs.Prelude.{ℕ, ◌≤◌, ◌≡◌, ◌⊎◌, List, [], ◌++◌, length, take, drop}
+use Rattle.std.specs.Prelude.{ℕ, ◌≤◌, ◌≡◌, ◌⊎◌, Ok, List, [], ◌++◌, length, take, drop}
 use Rattle.wire.specs.Bytes.{num, Bytes}
 use Rattle.pdu.specs.Forms.{size_of, body_in, body_cleared, bytes_of}
 use Rattle.pdu.specs.Reading.{content, body_of, reading, used}
@@ -8,12 +8,11 @@ use Rattle.pdu.specs.Timing.{timing_at}
 use Rattle.pdu.specs.declared.Signal.{Signal as SignalFields}
 use Rattle.pdu.specs.declared.Reading.{Reading}
 use Rattle.pdu.specs.declared.Reading.TheVariants.{Refused, Transmitter, Signal}
-use Rattle.pdu.specs.declared.Written.TheVariants.{Size}
 
 -- "Written back it is the same bytes with padding zero", of "the first PDU and the bytes used" (02, R-5): what was read of d, written with room,
 -- answers the bytes used and leaves those of d with padding zero, and then what stood there
 pub record WrittenBack (d out : List ℕ) : Type 0 where
-  pub answer : written (content d) (length out) ≡ Size (used d)
+  pub answer : written (content d) (length out) ≡ Ok (used d)
   pub output : output_after (content d) (body_of d) out ≡ padding_zero d ++ drop (used d) out
 
 -- 02, R-5, of live reading and of archive reading alike: the first PDU of a slice that is taken lies in it, as long as its length field says, and
@@ -25,13 +24,13 @@ pub record FirstAlone (read : List ℕ → Reading) (d : List ℕ) : Type 0 wher
 
 -- the body that a writing of this form is given, padding inside it zero (02, R-1); a Transmitter has none
 abbrev pub body_given : Reading → List ℕ → List ℕ
-body_given (Refused n) body = []
+body_given (Refused e) body = []
 body_given (Transmitter t) body = []
 body_given (Signal s n) body = body_cleared s.network.message_type n body
 
 -- and its length
 abbrev pub body_length : Reading → ℕ
-body_length (Refused n) = 0
+body_length (Refused e) = 0
 body_length (Transmitter t) = 0
 body_length (Signal s n) = n
 

@@ -87,6 +87,6 @@ body_rules type n =
 
 -- the rules that reading tries last and writing tries before 16: 9; or 131 to 138, 50, 14, 15
 unfoldable pub inner_rules : Reading → List Refusal
-inner_rules (Refused n) = []
+inner_rules (Refused e) = []
 inner_rules (Transmitter t) = (9 given_when wrong_sync t.sync) ∷ []
 inner_rules (Signal s n) = live_rules s.network ++ body_rules s.network.message_type n

@@ -1,7 +1,8 @@
 -- Writing a record: the refusals in document 01's order, what the call answers, and what it leaves in the lent output.
-use Rattle.std.specs.Prelude.{ℕ, ◌-◌, Bool, true, cond, ◌&&◌, List, [], ◌∷◌, ◌++◌, length, drop, eqb, ltb}
+use Rattle.std.specs.Prelude.{ℕ, ◌-◌, Bool, true, cond, ◌&&◌, List, [], ◌∷◌, ◌++◌, length, drop, eqb, ltb, Option, Some, None, Result, Ok, Err}
 use Rattle.wire.specs.First.{Refusal, ◌given_when◌, first, told}
 use Rattle.wire.specs.Table.{clear, all_blank}
+use Rattle.pdu.specs.Refusals.{Refusal as Reason, number, named}
 use Rattle.pdu.specs.Numbers
 use Rattle.pdu.specs.Tables.{body_slots}
 use Rattle.pdu.specs.Rules.{wrong_version, wrong_status, inner_rules}
@@ -9,11 +10,7 @@ use Rattle.pdu.specs.Forms.{table_of, bytes_of, size_of}
 use Rattle.pdu.specs.Reading.{signal_of, body_size, content, body_of, form_rules, refusal, reading_says}
 use Rattle.pdu.specs.declared.Header.{Header}
 use Rattle.pdu.specs.declared.Reading.{Reading}
-use Rattle.pdu.specs.declared.Reading.TheVariants.{Refused as NotRead, Transmitter, Signal}
-use Rattle.pdu.specs.declared.Written.{Written}
-use Rattle.pdu.specs.declared.Written.TheVariants.{Refused, Size}
-use Rattle.pdu.specs.declared.Carried.{Carried}
-use Rattle.pdu.specs.declared.Carried.TheVariants.{Other, Pdu}
+use Rattle.pdu.specs.declared.Reading.TheVariants.{Refused, Transmitter, Signal}
 
 -- 2, and 52 (02, R-9), of a header to be written
 abbrev pub head_rules : Header → List Refusal
@@ -21,13 +18,14 @@ head_rules h = (2 given_when wrong_version h.version) ∷ (52 given_when wrong_s
 
 -- the rules of a record: 2, 52, 9 of a Transmitter; 2, 52, 10, 131 to 138, 50, 14, 15 of a Signal. A refusal is no record
 unfoldable pub record_rules : Reading → List Refusal
-record_rules (NotRead n) = (2 given_when true) ∷ []
+record_rules (Refused e) = (2 given_when true) ∷ []
 record_rules (Transmitter t) = head_rules t.header ++ inner_rules (Transmitter t)
 record_rules (Signal s n) =
     head_rules s.header
     ++ ((10 given_when ltb (Numbers.encoding_kept - 1) s.encoding) ∷ inner_rules (Signal s n))
 
--- "Writing: 2, then 9, 16 for a Transmitter or 10, 13, 14, 15, 16 for a Signal", with 131 to 138 for 13 (02, R-3) and 50 before 14 (R-4), 52 after 2 (R-9)
+-- "Writing: 2, then 9, 16 for a Transmitter or 10, 13, 14, 15, 16 for a Signal", with 131 to 138 for 13 (02, R-3) and 50 before 14 (R-4), 52
+-- after 2 (R-9)
 unfoldable pub writing_rules : Reading → ℕ → List Refusal
 writing_rules r room = record_rules r ++ ((16 given_when ltb room (size_of r)) ∷ [])
 
@@ -36,13 +34,13 @@ abbrev pub writing_refusal : Reading → ℕ → ℕ
 writing_refusal r room = first (writing_rules r room)
 
 -- what writing a record answers, given the output's room
-abbrev pub written : Reading → ℕ → Written
-written r room = cond (eqb (writing_refusal r room) 0) (Size (size_of r)) (Refused (writing_refusal r room))
+abbrev pub written : Reading → ℕ → Result ℕ Reason
+written r room = cond (eqb (writing_refusal r room) 0) (Ok (size_of r)) (Err (named (writing_refusal r room)))
 
 -- document 01's number, and the size written, of each answer of writing
-abbrev pub written_says : Written → List ℕ
-written_says (Refused n) = n ∷ []
-written_says (Size n) = 0 ∷ n ∷ []
+abbrev pub written_says : Result ℕ Reason → List ℕ
+written_says (Err e) = number e ∷ []
+written_says (Ok n) = 0 ∷ n ∷ []
 
 -- what writing says in document 01's numbers: the refusal's alone, or 0 and the size
 abbrev pub writing_says : Reading → ℕ → List ℕ
@@ -80,13 +78,13 @@ unfoldable pub in_written_form : List ℕ → Bool
 in_written_form d = eqb (refusal d) 0 && only_form (content d) d
 
 -- what a datagram holds where it is in written form
-unfoldable pub carried : List ℕ → Carried
-carried d = cond (in_written_form d) (Pdu (content d)) Other
+unfoldable pub carried : List ℕ → Option Reading
+carried d = cond (in_written_form d) (Some (content d)) None
 
 -- the values of each answer about carried bytes: those of a PDU in written form (22, where there is none, is the trunk's number)
-abbrev pub carried_says : Carried → List ℕ
-carried_says Other = []
-carried_says (Pdu r) = reading_says r
+abbrev pub carried_says : Option Reading → List ℕ
+carried_says None = []
+carried_says (Some r) = reading_says r
 
 -- what is said of carried bytes
 abbrev pub carried_said : List ℕ → List ℕ

@@ -2,8 +2,10 @@
 // and the tests of a record's fields. What reading and writing mean stands in specs/; the crates `reader` and `writer` do it.
 #![tactic(auto)]
 
-pub mod refusals;
+mod refusals;
 pub mod rules;
+
+pub use refusals::Refusal;
 
 // Bytes 0 to 19: the PDU types, their family, the versions taken, and the least bytes that hold a type.
 pub const TRANSMITTER_TYPE: u8 = 25;
@@ -109,7 +111,8 @@ pub const MOST_WORDS: usize = 12;
 
 pub const MOST_BYTES: usize = 256;
 
-// Round-trip timing (request R-1): its two message types, and the bytes of their body; the 35 kept bits are 3 of its first two bytes, and the last four.
+// Round-trip timing (request R-1): its two message types, and the bytes of their body; the 35 kept bits are 3 of its first two bytes, and the last
+// four.
 pub const INTERROGATION: u8 = 1;
 
 pub const TIMING_REPLY: u8 = 2;
@@ -140,8 +143,10 @@ pub const SUBLABEL_UNIT: u16 = 128;
 
 pub const SUBLABELS: u16 = 8;
 
+// Fields are the PDU's numbers and no enums: a record to be written may break the rules (9, 131 to 138), and the definitions name these fields.
+
 // Bytes 0 to 19, which both PDUs share; type, family, length and padding are not kept. The status is 0 in versions 5 and 6.
-#[derive(Clone, Copy)]
+#[derive(Clone, Copy, Debug, PartialEq, Eq)]
 pub struct Header {
     pub version: u8,
     pub exercise: u8,
@@ -154,7 +159,7 @@ pub struct Header {
 }
 
 // Bytes 20 to 31 of a Transmitter: its radio entity type, the category left out, and its transmit state.
-#[derive(Clone, Copy)]
+#[derive(Clone, Copy, Debug, PartialEq, Eq)]
 pub struct Entity {
     pub kind: u8,
     pub domain: u8,
@@ -165,7 +170,7 @@ pub struct Entity {
 }
 
 // Bytes 32 to 71: antenna location (three doubles) and relative location (three singles), as bits, and the pattern type.
-#[derive(Clone, Copy)]
+#[derive(Clone, Copy, Debug, PartialEq, Eq)]
 pub struct Antenna {
     pub x: u64,
     pub y: u64,
@@ -177,7 +182,7 @@ pub struct Antenna {
 }
 
 // Bytes 72 to 103: frequency, bandwidth and power as bits; spread spectrum; crypto system and key ID.
-#[derive(Clone, Copy)]
+#[derive(Clone, Copy, Debug, PartialEq, Eq)]
 pub struct Emission {
     pub frequency: u64,
     pub bandwidth: u32,
@@ -188,7 +193,7 @@ pub struct Emission {
 }
 
 // Bytes 104 to 111: TSA level, modes, synchronization state and ID.
-#[derive(Clone, Copy)]
+#[derive(Clone, Copy, Debug, PartialEq, Eq)]
 pub struct Sync {
     pub level: u8,
     pub primary: u8,
@@ -197,7 +202,7 @@ pub struct Sync {
     pub id: u32,
 }
 
-#[derive(Clone, Copy)]
+#[derive(Clone, Copy, Debug, PartialEq, Eq)]
 pub struct Transmitter {
     pub header: Header,
     pub entity: Entity,
@@ -207,7 +212,7 @@ pub struct Transmitter {
 }
 
 // The network header of a Signal; the slot ID is two fields, so that no padding bit is in a record.
-#[derive(Clone, Copy)]
+#[derive(Clone, Copy, Debug, PartialEq, Eq)]
 pub struct Network {
     pub npg: u16,
     pub net: u8,
@@ -219,7 +224,7 @@ pub struct Network {
     pub time: u64,
 }
 
-#[derive(Clone, Copy)]
+#[derive(Clone, Copy, Debug, PartialEq, Eq)]
 pub struct Signal {
     pub header: Header,
     pub encoding: u16,
@@ -228,45 +233,20 @@ pub struct Signal {
     pub network: Network,
 }
 
-// What reading a datagram answers: a refusal number; a Transmitter; or a Signal and its body's size, the body left in the caller's slice.
-#[derive(Clone, Copy)]
+// What reading a datagram answers: its refusal; a Transmitter; or a Signal and its body's size, the body left in the caller's slice.
+// An enum of its own, the form that document 01 asks for: "The reader's answer is a refusal number, a Transmitter with its fields, or a Signal". The
+// number is the refusal's `number`.
+#[derive(Clone, Copy, Debug, PartialEq, Eq)]
 pub enum Reading {
-    Refused(u8),
+    Refused(Refusal),
     Transmitter(Transmitter),
     Signal(Signal, u16),
 }
 
-// The number of what reading answered, 0 where a PDU is taken, and its size, 0 where it is refused.
-#[derive(Clone, Copy)]
-pub struct Answer {
-    pub number: u8,
-    pub size: u16,
-}
-
-// What writing answers: a refusal number, or the bytes written.
-#[derive(Clone, Copy)]
-pub enum Written {
-    Refused(u8),
-    Size(usize),
-}
-
-// What bytes hold that should be in written form: a PDU as the writer gives it, or something else.
-#[derive(Clone, Copy)]
-pub enum Carried {
-    Other,
-    Pdu(Reading),
-}
-
-// What a body holds as round-trip timing: the one kept field, of 35 bits.
-#[derive(Clone, Copy)]
-pub enum Timing {
-    Absent,
-    Here(u64),
-}
-
-// What stands at a word's place in a type 0 body.
-#[derive(Clone, Copy)]
-pub enum Word {
-    Absent,
-    Here { format: u8, label: u8, sublabel: u8 },
+// A word of a type 0 body, where one stands.
+#[derive(Clone, Copy, Debug, PartialEq, Eq)]
+pub struct Word {
+    pub format: u8,
+    pub label: u8,
+    pub sublabel: u8,
 }

@@ -2,53 +2,21 @@
 // plan for the rates: `accepted`, `not a plan`, or `refused N` for rates that no plan can be for. A line that cannot be read is `bad line N`.
 #![tactic(auto)]
 
-use plantext::{Came, show};
+use plantext::Phase;
 use slots::Verdict;
 
-fn print_verdict(rt: &HostRuntime, verdict: Verdict) {
-    match verdict {
-        Verdict::Accepted => show::text(rt, b"accepted\n"),
-        Verdict::Refused(n) => show::refused(rt, n),
-        Verdict::NotAPlan => show::text(rt, b"not a plan\n"),
-    }
-}
-
-// Checks so many rates and bytes of a plan.
-fn run(rt: &HostRuntime, rates: &[u8], count: usize, plan: &[u8], size: usize) {
-    if rates.len() < count {
-        return;
-    }
-    if plan.len() < size {
-        return;
-    }
-    print_verdict(rt, slots::check(&rates[..count], &plan[..size]));
-}
-
-// Reads the lines, and checks where all could be read. Where no dash came, the line that should have it cannot be read.
-fn answer(rt: &HostRuntime, text: &[u8], n: usize, whole: bool, rates: &mut [u8], plan: &mut [u8]) {
-    if text.len() < n {
-        return;
-    }
-    let input = plantext::read_lines(&text[..n], plantext::RATES_THEN_DASH, rates, plan);
-    if input.bad {
-        return show::bad_line(rt, input.lines);
-    }
-    if !whole {
-        return show::bad_line(rt, input.lines);
-    }
-    if input.phase != plantext::BLOCKS {
-        return show::bad_line(rt, input.lines);
-    }
-    run(rt, rates, input.rates, plan, input.plan);
+// Checks the plan for the rates, and prints what came of it. A write that fails is not told.
+fn answer(rt: &HostRuntime, rates: &[u8], plan: &[u8]) {
+    let _ = match slots::check(rates, plan) {
+        Ok(Verdict::Accepted) => println!(rt; "accepted"),
+        Ok(Verdict::NotAPlan) => println!(rt; "not a plan"),
+        Err(refusal) => println!(rt; "refused {}", refusal.number()),
+    };
 }
 
 fn main(rt: HostRuntime) {
-    let mut lines = [0u8; text::lines::INPUT];
-    let mut rates = [0u8; text::ROOM];
-    let mut plan = [0u8; text::ROOM];
-    match plantext::read_text(&rt, &mut lines) {
-        Came::Failed(error) => text::show::failed(&rt, "standard input", error),
-        Came::Text(n) => answer(&rt, &lines, n, true, &mut rates, &mut plan),
-        Came::Start(n) => answer(&rt, &lines, n, false, &mut rates, &mut plan),
+    match plantext::read(&rt, Phase::RatesThenDash) {
+        Ok(input) => answer(&rt, &input.rates, &input.plan),
+        Err(failure) => failure.tell(&rt),
     }
 }

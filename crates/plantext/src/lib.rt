@@ -1,162 +1,135 @@
 // The text that the programs `planner` and `plancheck` read: rates one a line, a line `-`, and blocks as `SET FIRST RATE` one a line.
 #![tactic(auto)]
 
-pub mod scan;
-pub mod show;
+mod line;
 
-use scan::{Found, Scan};
+ghost use Rattle.std.specs.Prelude.{◌≡◌, true, false, MatchResult, OnOk};
+ghost use Rattle.plantext.specs.Inputs.{may_come, phase_after, pushed, rates_after, with_block, plan_after};
+
+use arrayvec::ArrayVec;
+use line::Line;
 use std::io;
 use std::io::Read;
-use text::lines;
+use text::{ROOM, lines};
 
 // Which lines may come: rates alone; rates and then a dash; blocks behind the dash.
-pub const RATES: u8 = 0;
-
-pub const RATES_THEN_DASH: u8 = 1;
-
-pub const BLOCKS: u8 = 2;
-
-// What was read so far: the lines that ended, which may come, how many rates and bytes of a plan, and whether a line could not be read.
-#[derive(Clone, Copy)]
-pub struct Input {
-    pub lines: u64,
-    pub phase: u8,
-    pub rates: usize,
-    pub plan: usize,
-    pub bad: bool,
+#[derive(Clone, Copy, Debug, PartialEq, Eq)]
+pub enum Phase {
+    Rates,
+    RatesThenDash,
+    Blocks,
 }
 
-// What standard input brought: the whole text's length; or only its start, since there is more than fits; or a failure.
+// A line that cannot be read, or may not come where it stands.
+#[derive(Clone, Copy, Debug, PartialEq, Eq)]
+struct BadLine;
+
+// Why a text brings nothing: it cannot be read, or one of its lines, before which so many came.
+#[derive(Debug, Drop)]
+pub enum Failure {
+    Read(io::Error),
+    BadLine(u64),
+}
+
+impl From<io::Error> for Failure {
+    ghost use Rattle.plantext.specs.declared.Failure.TheVariants.{Read};
+
+    ghost from_gives = { λ error failure. failure ≡ Read error };
+
+    fn from(error: io::Error) -> Self {
+        Failure::Read(error)
+    }
+}
+
+impl Failure {
+    // Tells of a text that cannot be read on standard error, and of a line on standard output. A write that fails is not told, where
+    // `text::show::bad_line` tells of it.
+    pub fn tell(self, rt: &HostRuntime) {
+        match self {
+            Failure::Read(error) => text::show::failed(rt, "standard input", error),
+            Failure::BadLine(before) => {
+                let _ = println!(rt; "bad line {}", before.saturating_add(1));
+            }
+        }
+    }
+}
+
+// Puts a byte behind a list, where there is room: a list without room is longer than any that is accepted.
+fn push(list: &mut ArrayVec<u8, ROOM>, byte: u8)
+    ensures { list.new.items ≡ pushed list.old.items byte }
+{
+    let _ = list.try_push(byte);
+}
+
+// Puts a block's four bytes behind a plan, the set as slots' number: in R-14's form, which this crate has without `slots` (its definition is `with_block`).
+fn push_block(plan: &mut ArrayVec<u8, ROOM>, set: u8, first: u16, rate: u8)
+    ensures { plan.new.items ≡ with_block plan.old.items set first rate }
+{
+    let [high, low] = first.to_be_bytes();
+    push(plan, set);
+    push(plan, rate);
+    push(plan, high);
+    push(plan, low);
+}
+
+// What was read so far: how many lines, which may come, the rates, and the bytes of a plan.
 #[derive(Drop)]
-pub enum Came {
-    Text(usize),
-    Start(usize),
-    Failed(io::Error),
+pub struct Input {
+    lines: u64,
+    phase: Phase,
+    pub rates: ArrayVec<u8, ROOM>,
+    pub plan: ArrayVec<u8, ROOM>,
 }
 
-// Reads standard input up to its end, or until `text` is full.
-pub fn read_text(rt: &HostRuntime, text: &mut [u8]) -> Came {
-    let n = lines::read_full(rt, text);
+impl Input {
+    fn new(phase: Phase) -> Self {
+        Input {
+            lines: 0,
+            phase,
+            rates: ArrayVec::new(),
+            plan: ArrayVec::new(),
+        }
+    }
+
+    // Takes what a line says, where such a line may come.
+    fn take(&mut self, line: Line) -> Result<(), BadLine>
+        ensures may { MatchResult result (λ _. may_come self.old.phase line ≡ true) (λ _. may_come self.old.phase line ≡ false) }
+        ensures phase { OnOk result (self.new.phase ≡ phase_after self.old.phase line) }
+        ensures rates { OnOk result (self.new.rates.items ≡ rates_after self.old.rates.items line) }
+        ensures plan { OnOk result (self.new.plan.items ≡ plan_after self.old.plan.items line) }
+    {
+        match line {
+            Line::Rate(rate) if self.phase != Phase::Blocks => push(&mut self.rates, rate),
+            Line::Dash if self.phase == Phase::RatesThenDash => self.phase = Phase::Blocks,
+            Line::Block { set, first, rate } if self.phase == Phase::Blocks => {
+                push_block(&mut self.plan, set, first, rate);
+            }
+            _ => return Err(BadLine),
+        }
+        Ok(())
+    }
+
+    // Takes the lines of a text. They are counted in a field: behind the last one, too, `read` tells how many came, which `enumerate` would not.
+    fn take_lines(&mut self, text: &[u8]) -> Result<(), BadLine> {
+        for line in text.split_inclusive(|byte| *byte == b'\n') {
+            self.take(Line::read(line).ok_or(BadLine)?)?;
+            self.lines = self.lines.saturating_add(1);
+        }
+        Ok(())
+    }
+}
+
+// Reads the lines of standard input, where rates alone may come, or rates, a dash and blocks. Of a text that does not fit only the start is
+// read, and then the next line is the bad one; so is the one that should have a dash, where none came.
+pub fn read(rt: &HostRuntime, phase: Phase) -> Result<Input, Failure> {
+    let mut text = [0u8; lines::INPUT];
+    let n = lines::read_full(rt, &mut text);
     let mut more = [0u8; 1];
-    match rt.stdin().read(&mut more) {
-        Ok(0) => Came::Text(n),
-        Ok(_) => Came::Start(n),
-        Err(error) => Came::Failed(error),
+    let whole = rt.stdin().read(&mut more)? == 0;
+    let mut input = Input::new(phase);
+    let taken = input.take_lines(&text[..n]);
+    if taken.is_ok() && whole && input.phase != Phase::RatesThenDash {
+        return Ok(input);
     }
-}
-
-// Puts a byte where there is room; a list that has none is longer than any that is accepted.
-fn keep(list: &mut [u8], at: usize, byte: u8) -> usize {
-    if at < list.len() {
-        list[at] = byte;
-        return at + 1;
-    }
-    at
-}
-
-fn bad(input: Input) -> Input {
-    Input {
-        lines: input.lines,
-        phase: input.phase,
-        rates: input.rates,
-        plan: input.plan,
-        bad: true,
-    }
-}
-
-fn with_rate(input: Input, rate: u8, rates: &mut [u8]) -> Input {
-    if input.phase == BLOCKS {
-        return bad(input);
-    }
-    let count = keep(rates, input.rates, rate);
-    Input {
-        lines: input.lines,
-        phase: input.phase,
-        rates: count,
-        plan: input.plan,
-        bad: false,
-    }
-}
-
-fn with_dash(input: Input) -> Input {
-    if input.phase != RATES_THEN_DASH {
-        return bad(input);
-    }
-    Input {
-        lines: input.lines,
-        phase: BLOCKS,
-        rates: input.rates,
-        plan: input.plan,
-        bad: false,
-    }
-}
-
-// A block's four bytes: set, rate, first index.
-fn with_block(input: Input, set: u8, first: u16, rate: u8, plan: &mut [u8]) -> Input {
-    if input.phase != BLOCKS {
-        return bad(input);
-    }
-    let after_set = keep(plan, input.plan, set);
-    let after_rate = keep(plan, after_set, rate);
-    let after_high = keep(plan, after_rate, (first / 256) as u8);
-    let size = keep(plan, after_high, (first % 256) as u8);
-    Input {
-        lines: input.lines,
-        phase: input.phase,
-        rates: input.rates,
-        plan: size,
-        bad: false,
-    }
-}
-
-fn next_line(input: Input) -> Input {
-    if input.bad {
-        return input;
-    }
-    if input.lines == u64::MAX {
-        return bad(input);
-    }
-    Input {
-        lines: input.lines + 1,
-        phase: input.phase,
-        rates: input.rates,
-        plan: input.plan,
-        bad: false,
-    }
-}
-
-// Takes what a byte of the text was found to end.
-fn with_found(input: Input, found: Found, rates: &mut [u8], plan: &mut [u8]) -> Input {
-    match found {
-        Found::Nothing => input,
-        Found::Bad => bad(input),
-        Found::Rate(rate) => next_line(with_rate(input, rate, rates)),
-        Found::Dash => next_line(with_dash(input)),
-        Found::Block { set, first, rate } => {
-            next_line(with_block(input, set, first, rate, plan))
-        }
-    }
-}
-
-// Reads the lines of a text. The last one may lack its end.
-pub fn read_lines(text: &[u8], phase: u8, rates: &mut [u8], plan: &mut [u8]) -> Input {
-    let mut input = Input {
-        lines: 0,
-        phase,
-        rates: 0,
-        plan: 0,
-        bad: false,
-    };
-    let mut at = scan::start();
-    for byte in text {
-        let step = scan::step(at, *byte);
-        at = step.scan;
-        let found = step.found;
-        input = with_found(input, found, rates, plan);
-        if input.bad {
-            return input;
-        }
-    }
-    let last = scan::end(at);
-    with_found(input, last, rates, plan)
+    Err(Failure::BadLine(input.lines))
 }

@@ -1,61 +1,56 @@
 // What a call answered, as a line.
+use text::hex::Hex;
 use text::{ROOM, show};
-use trunk::{Arrival, Offer, Reply, Sent};
+use trunk::{Arrival, Refusal, records};
 
-// A reply's length.
-const REPLY: usize = trunk::records::HEAD_SIZE;
+// The first bytes of a buffer, to be printed.
+fn hex(buf: &[u8; ROOM], n: usize) -> Hex<'_> {
+    Hex(&buf[..n.min(ROOM)])
+}
 
 // `offer NUMBER`, the first one taken
-pub fn offered(rt: &HostRuntime, answer: Offer) {
+pub fn offered(rt: &HostRuntime, answer: Result<u32, Refusal>) {
     match answer {
-        Offer::Refused(number) => show::refused(rt, b"offer", number),
-        Offer::Taken(number) => show::line(rt, b"offer", number as u64),
+        Err(refusal) => show::refused(rt, "offer", refusal.number()),
+        Ok(number) => show::line(rt, format_args!("offer {number}")),
     }
 }
 
 // `send SIZE HEX`
-pub fn sent(rt: &HostRuntime, answer: Sent, out: &[u8; ROOM]) {
+pub fn sent(rt: &HostRuntime, answer: Result<usize, Refusal>, out: &[u8; ROOM]) {
     match answer {
-        Sent::Refused(number) => show::refused(rt, b"send", number),
-        Sent::Size(n) => {
-            show::text(rt, b"send");
-            show::field(rt, n as u64);
-            show::bytes(rt, out, n);
-            show::end_line(rt);
-        }
+        Err(refusal) => show::refused(rt, "send", refusal.number()),
+        Ok(n) => show::line(rt, format_args!("send {n} {}", hex(out, n))),
     }
 }
 
 // `near ACKNOWLEDGED`
-pub fn replied(rt: &HostRuntime, answer: Reply) {
+pub fn replied(rt: &HostRuntime, answer: Result<u32, Refusal>) {
     match answer {
-        Reply::Refused(number) => show::refused(rt, b"near", number),
-        Reply::Acknowledged(count) => show::line(rt, b"near", count as u64),
+        Err(refusal) => show::refused(rt, "near", refusal.number()),
+        Ok(count) => show::line(rt, format_args!("near {count}")),
     }
 }
 
-// The words of an arrival that was answered, and the reply.
-fn with_reply(rt: &HostRuntime, word: &[u8], reply: &[u8; ROOM]) {
-    show::text(rt, word);
-    show::bytes(rt, reply, REPLY);
-    show::end_line(rt);
-}
-
-// `far delivered SIZE ANSWER HEX REPLYHEX`
-fn delivered(rt: &HostRuntime, size: usize, answer: u8, out: &[u8; ROOM], reply: &[u8; ROOM]) {
-    show::text(rt, b"far delivered");
-    show::field(rt, size as u64);
-    show::field(rt, answer as u64);
-    show::bytes(rt, out, size);
-    with_reply(rt, b"", reply);
-}
-
-// `far repeat REPLYHEX`, `far early REPLYHEX` or one of the above
-pub fn arrived(rt: &HostRuntime, answer: Arrival, out: &[u8; ROOM], reply: &[u8; ROOM]) {
+// `far delivered SIZE ANSWER HEX REPLYHEX`, `far repeat REPLYHEX` or `far early REPLYHEX`
+pub fn arrived(
+    rt: &HostRuntime,
+    answer: Result<Arrival, Refusal>,
+    out: &[u8; ROOM],
+    reply: &[u8; ROOM],
+) {
+    let reply = hex(reply, records::HEAD_SIZE);
     match answer {
-        Arrival::Refused(number) => show::refused(rt, b"far", number),
-        Arrival::Delivered { size, answer } => delivered(rt, size, answer, out, reply),
-        Arrival::Repeat => with_reply(rt, b"far repeat", reply),
-        Arrival::Early => with_reply(rt, b"far early", reply),
+        Err(refusal) => show::refused(rt, "far", refusal.number()),
+        Ok(Arrival::Delivered { size, answer }) => {
+            let answer = answer.number();
+            let pdu = hex(out, size);
+            show::line(
+                rt,
+                format_args!("far delivered {size} {answer} {pdu} {reply}"),
+            )
+        }
+        Ok(Arrival::Repeat) => show::line(rt, format_args!("far repeat {reply}")),
+        Ok(Arrival::Early) => show::line(rt, format_args!("far early {reply}")),
     }
 }

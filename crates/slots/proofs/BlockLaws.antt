@@ -3,34 +3,30 @@
 -- smaller modulus, and where these agree, the first index of the block with the larger modulus is in both.
 -- Assumes nothing.
 use Prim.Native.Nat.{ℕ, ◌+◌, ◌-◌, ◌*◌, ◌/◌, ◌%◌, ◌^◌, ◌≤◌, ◌<◌, max}
-use mathlib.Core.Path.{◌≡◌, refl, sym, ap, ap₂, ◌∙◌, subst}
-use mathlib.Core.Bool.{Bool, true, false, ◌&&◌}
+use mathlib.Core.Path.{◌≡◌, sym, ap, ap₂, ◌∙◌, subst}
+use mathlib.Core.Bool.{true, ◌&&◌}
 use mathlib.Core.Logic.{⊎_elim}
 use native.Mathlib.Nat.{one-mul, mod-eq_of_lt, max-eq_right, max_comm, le-max_left, le-max_right}
 use native.Mathlib.Omega.{arith}
 use lib.Dec.{eqb}
 use lib.Pow.{pow_mono, pow-add, mod-mod-pow}
 use borrow.Author.Tests.{eq-eqb, eqb-true}
-use Rattle.wire.proofs.TableLaws.{both_true}
 use Rattle.slots.specs.Blocks.{set_count, slot_count, modulus, has_slot}
 use Rattle.slots.specs.Checking.{common, share}
 use Rattle.slots.specs.Planning.{sum}
 use Rattle.slots.specs.Plain.{has}
 use Rattle.slots.specs.Claims.{BlockHasItsSlots}
 use Rattle.slots.specs.declared.Block.{Block}
-use Rattle.slots.proofs.OrderLaws.{below_or_not}
+use Rattle.std.proofs.Math.Bool.{and-true}
+use Rattle.std.proofs.lemmas.Bool.{cases_lt, and_parts}
 use Rattle.slots.proofs.SumLaws.{bit, sum_same, sum_const, sum_single, sum_grid, count-sum}
 
 -- ---- how many slots a block has
 
-and_true : (a : Bool) → (a && true) ≡ a
-and_true true = refl
-and_true false = refl
-
 -- the indices of one remainder below a multiple of the modulus
 remainders : (m n first : ℕ) → first < m → sum (λ i. bit (eqb (i % m) first)) (m * n) ≡ n
 remainders m n first h =
-    sum_same _ (λ i. bit (eqb (i % m) first && true)) (m * n) (λ i l. ap bit (sym (and_true (eqb (i % m) first))))
+    sum_same _ (λ i. bit (eqb (i % m) first && true)) (m * n) (λ i l. ap bit (sym (and-true (eqb (i % m) first))))
     ∙ sum_grid (λ r. eqb r first) (λ _. true) m n (omega arith)
     ∙ ap₂ ◌*◌ (sum_single 1 first m h) (sum_const 1 n)
     ∙ omega arith
@@ -59,7 +55,7 @@ remainder_kept x r t h = power_kept x _ _ (omega arith)
 
 pub share_parts : (b c : Block) → share b c ≡ true → (b.set ≡ c.set) × (b.first % common b c ≡ c.first % common b c)
 share_parts b c e =
-    let both = both_true (eqb b.set c.set) (eqb (b.first % common b c) (c.first % common b c)) e in
+    let both = and_parts (eqb b.set c.set) (eqb (b.first % common b c) (c.first % common b c)) e in
     (eqb-true _ _ both.0, eqb-true _ _ both.1)
 
 parts_share : (b c : Block) → b.set ≡ c.set → b.first % common b c ≡ c.first % common b c → share b c ≡ true
@@ -73,7 +69,7 @@ share_swap b c e =
 
 has_parts : (b : Block) (s : ℕ) → has_slot b s ≡ true → (s % 3 ≡ b.set) × (s / 3 % modulus b.rate ≡ b.first)
 has_parts b s e =
-    let both = both_true (eqb (s % 3) b.set) (eqb (s / 3 % modulus b.rate) b.first) e in
+    let both = and_parts (eqb (s % 3) b.set) (eqb (s / 3 % modulus b.rate) b.first) e in
     (eqb-true _ _ both.0, eqb-true _ _ both.1)
 
 -- blocks with a slot in common are found by the test
@@ -129,4 +125,4 @@ found_shared b c hs hb hc e =
     let set : c.set < set_count = subst (λ (n : ℕ). n < set_count) (share_parts b c e).0 hs in
     let found = found_by_lower c b l set hc hb (share_swap b c e) in
     (found.0, found.1, found.3, found.2))
-    (below_or_not b.rate c.rate)
+    (cases_lt b.rate c.rate)

@@ -11,12 +11,11 @@ use lib.ListN.{length, get_or}
 use lib.Dec.{eqb, ltb}
 use borrow.Author.Tests.{eq-eqb, eqb-true, lt-ltb, ltb-true, le-leb, leb-true, not-true}
 use Rattle.wire.specs.Bytes.{num}
-use Rattle.wire.proofs.TableLaws.{both_true}
+use Rattle.std.proofs.lemmas.Bool.{and_parts}
 use Rattle.slots.specs.Blocks.{set_count, modulus, has_slot, block_size, block_at}
 use Rattle.slots.specs.Checking.{rate_at, every, first_below, fits, share, apart_from, apart_before, good_at, is_plan}
 use Rattle.slots.specs.Plain.{Pass, Plan, set_in, rate_in, first_in, has_in}
 use Rattle.slots.specs.declared.Block.{Block}
-use Rattle.slots.proofs.OrderLaws.{not_below_same}
 use Rattle.slots.proofs.SumLaws.{every_each, each_every}
 use Rattle.slots.proofs.BlockLaws.{shared_found, found_shared}
 
@@ -60,8 +59,8 @@ is_below rate first h = le-leb _ _ h
 
 pub fits_parts : (rate : ℕ) (b : Block) → fits rate b ≡ true → Fits rate b
 fits_parts rate b e =
-    let outer = both_true (ltb b.set set_count && eqb b.rate rate) (first_below b.rate b.first) e in
-    let inner = both_true (ltb b.set set_count) (eqb b.rate rate) outer.0 in
+    let outer = and_parts (ltb b.set set_count && eqb b.rate rate) (first_below b.rate b.first) e in
+    let inner = and_parts (ltb b.set set_count) (eqb b.rate rate) outer.0 in
     record {
       right = eqb-true _ _ inner.1;
       set_below = ltb-true _ _ inner.0;
@@ -79,14 +78,18 @@ module _ (rates plan : List ℕ) where
   module _ (e : is_plan rates plan ≡ true) where
     split : (length plan ≡ block_size * length rates) × (every (good_at rates plan) (length rates) ≡ true)
     split =
-        let both = both_true (eqb (length plan) (block_size * length rates)) (every (good_at rates plan) (length rates)) e in
+        let both = and_parts (eqb (length plan) (block_size * length rates)) (every (good_at rates plan) (length rates)) e in
         (eqb-true _ _ both.0, both.1)
 
     good : (i : ℕ) → i < length rates → Fits (rate_at rates i) (block_at plan i) × (apart_before plan i ≡ true)
     good i h =
         let here = every_each (good_at rates plan) (length rates) split.1 i h in
-        let both = both_true (fits (rate_at rates i) (block_at plan i)) (apart_before plan i) here in
+        let both = and_parts (fits (rate_at rates i) (block_at plan i)) (apart_before plan i) here in
         (fits_parts (rate_at rates i) (block_at plan i) both.0, both.1)
+
+    -- two places neither of which is before the other are one
+    ordered : (i j : ℕ) → (i < j → ⊥) → (j < i → ⊥) → i ≡ j
+    ordered i j ahead behind = omega arith
 
     -- of two blocks with a slot in common, neither stands before the other
     not-before : (i j s : ℕ) → j < i → i < length rates → has_in plan i s ≡ true → has_in plan j s ≡ true → ⊥
@@ -104,8 +107,7 @@ module _ (rates plan : List ℕ) where
           rate = λ i h. sym (rate_at_lem plan i) ∙ (good i h).0.right;
           first =
               λ i h. subst₂ (λ (f r : ℕ). f < 2 ^ (15 - r)) (first-at plan i) (good i h).0.right (good i h).0.first_below_lem;
-          apart =
-              λ i j s hi hj hs ei ej. not_below_same i j (λ l. not-before j i s l hj ej ei) (λ l. not-before i j s l hi ei ej);
+          apart = λ i j s hi hj hs ei ej. ordered i j (λ l. not-before j i s l hj ej ei) (λ l. not-before i j s l hi ei ej);
         }
 
   -- and the other way

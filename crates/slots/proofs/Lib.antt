@@ -1,5 +1,4 @@
 -- Laws of slots, blocks and plans, and the theorems of them.
-pub mod OrderLaws
 pub mod SumLaws
 pub mod ReverseLaws
 pub mod BlockLaws

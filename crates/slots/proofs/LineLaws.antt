@@ -3,7 +3,7 @@
 -- Assumes nothing.
 use Prim.Native.Nat.{ℕ, ◌+◌, ◌-◌, ◌*◌, ◌/◌, ◌%◌, ◌^◌, ◌≤◌, ◌<◌}
 use mathlib.Core.Path.{◌≡◌, refl, sym, ap, ◌∙◌, subst}
-use mathlib.Core.Bool.{true}
+use mathlib.Core.Bool.{Bool, true, false, cond}
 use mathlib.Core.Logic.{⊎_elim}
 use mathlib.Core.List.{List}
 use native.Mathlib.Nat.{lt_trans, mod-lt, mod-eq_of_lt, max-eq_right, div-add-mod'}
@@ -13,10 +13,11 @@ use lib.Pow.{pow_pos, shr-shr, shr_lt}
 use borrow.Author.Tests.{lt-ltb, le-ltb, ltb-true}
 use Rattle.slots.specs.Blocks.{set_size, slot_count, modulus}
 use Rattle.slots.specs.Checking.{rate_at, share}
-use Rattle.slots.specs.Planning.{size_at, wanted, rank, before, start_at, reversed, block_from, block_for}
+use Rattle.slots.specs.Planning.{sum, size_at, size_before, wanted, rank, before, start_at, reversed, block_from, block_for}
 use Rattle.slots.specs.Plain.{Pass}
-use Rattle.slots.proofs.OrderLaws.{one_below}
-use Rattle.slots.proofs.SumLaws.{sum_one_more}
+use Rattle.std.proofs.lemmas.Bool.{cases_order}
+use Rattle.std.proofs.Math.Pow.{pow_mono}
+use Rattle.slots.proofs.SumLaws.{sum-le, sum_const, sum_one_more}
 use Rattle.slots.proofs.ReverseLaws.{reversed-lt, reversed_injective, reversed_low}
 use Rattle.slots.proofs.BlockLaws.{share_parts, share_swap}
 
@@ -114,6 +115,26 @@ module _ (rates : List ℕ) (pass : Pass rates) where
       → ⊥
   not_shared i j hi hj differ e =
       ⊎_elim
+      (λ q. differ (rank_same i j hi hj q))
+      (⊎_elim
       (λ l. not_shared_before j i hj hi l (share_swap (block_for rates i) (block_for rates j) e))
-      (λ l. not_shared_before i j hi hj l e)
-      (one_below (rank rates i) (rank rates j) (λ q. differ (rank_same i j hi hj q)))
+      (λ l. not_shared_before i j hi hj l e))
+      (cases_order (rank rates i) (rank rates j))
+
+-- ---- sums that a `u32` holds
+
+pub sizes_small : (rates : List ℕ) → Pass rates → wanted rates < 2 ^ 32
+sizes_small rates pass =
+    let each : wanted rates ≤ sum (λ _. 32768) (length rates) =
+    sum-le (size_at rates) (λ _. 32768) (length rates) (λ i l. pow_mono (pass.low i l)) in
+    omega (arith, each, sum_const 32768 (length rates), pass.few)
+
+at_most : (b : Bool) (n : ℕ) → cond b n 0 ≤ n
+at_most true n = omega arith
+at_most false n = omega arith
+
+pub start_small : (rates : List ℕ) (i : ℕ) → Pass rates → start_at rates i < 2 ^ 32
+start_small rates i pass =
+    let each : start_at rates i ≤ wanted rates =
+    sum-le (size_before rates i) (size_at rates) (length rates) (λ j l. at_most (before rates i j) (size_at rates j)) in
+    omega (arith, each, sizes_small rates pass)

@@ -2,17 +2,14 @@
 -- reversed number are the high bits of the number. Each goes by induction on the bits.
 -- Assumes nothing.
 use Prim.Native.Nat.{ℕ, zero, suc, ◌+◌, ◌-◌, ◌*◌, ◌/◌, ◌%◌, ◌^◌, ◌≤◌, ◌<◌}
-use mathlib.Core.Path.{◌≡◌, refl, sym, ap, ◌∙◌}
-use native.Mathlib.Numerals.{sub-one}
-use native.Mathlib.Nat.{le_trans, le_of_eq, not-suc-le-zero, pow-suc, pow-succ', suc-add, zero-add}
+use mathlib.Core.Path.{◌≡◌, sym, ap, ◌∙◌}
+use native.Mathlib.Numerals.{add-one}
+use native.Mathlib.Nat.{le_trans, le_of_eq, pow-suc, pow-succ', suc-add, zero-add}
 use native.Mathlib.Nat.{div-one, div-div-eq-div-mul, mod-eq_of_lt, mul-le-mul_right, mul_assoc, one-mul, mul-add-mod_self_right}
 use native.Mathlib.Omega.{arith}
-use lib.Pow.{pow-add, pow-lt, pow_mono, high, low}
+use lib.Pow.{pow-add, high, low}
+use Rattle.std.specs.Int.{reverse_bits_onto}
 use Rattle.slots.specs.Planning.{reversed}
-
--- a bit shifted up, with nothing shifted out
-pub shifted : (bits width : ℕ) → bits < width → 1 * 2 ^ bits % 2 ^ width ≡ 2 ^ bits
-shifted bits width h = ap (λ (n : ℕ). n % 2 ^ width) (one-mul (2 ^ bits)) ∙ mod-eq_of_lt (pow-lt h)
 
 -- the lowest bit is no more than its place
 pub bit_le : (q x : ℕ) → q % 2 * x ≤ x
@@ -21,26 +18,11 @@ bit_le q x = le_trans (mul-le-mul_right x (below q)) (le_of_eq (one-mul x))
     below : (n : ℕ) → n % 2 ≤ 1
     below n = omega arith
 
--- a turn of a loop over the bits, and its end
-pub reversed_turn : (k q : ℕ) → 0 < k → reversed k q ≡ q % 2 * 2 ^ (k - 1) + reversed (k - 1) (q / 2)
-unfolding reversed
-reversed_turn zero q h = absurd (not-suc-le-zero h)
-reversed_turn (suc k) q h = ap (λ (n : ℕ). q % 2 * 2 ^ n + reversed n (q / 2)) (sym (sub-one (suc k)))
-
-pub reversed_end : (k q : ℕ) → k ≤ 0 → reversed k q ≡ 0
-unfolding reversed
-reversed_end zero q h = refl
-reversed_end (suc k) q h = absurd (not-suc-le-zero h)
-
 pub reversed-lt : (k q : ℕ) → reversed k q < 2 ^ k
 unfolding reversed
 reversed-lt zero q = omega arith
 reversed-lt (suc k) q =
     omega (arith, bit_le q (2 ^ k), reversed-lt k (q / 2), pow-suc 2 k)
-
--- no more than 15 reversed bits are small
-pub reversed_small : (k q : ℕ) → k ≤ 15 → reversed k q < 32768
-reversed_small k q h = omega (arith, reversed-lt k q, pow_mono {i = k} {j = 15} h)
 
 pub reversed_injective : (k a b : ℕ) → a < 2 ^ k → b < 2 ^ k → reversed k a ≡ reversed k b → a ≡ b
 unfolding reversed
@@ -65,3 +47,27 @@ reversed_low (suc d) k q =
     ∙ mul-add-mod_self_right (q % 2 * 2 ^ d) (2 ^ k) (reversed (d + k) (q / 2))
     ∙ reversed_low d k (q / 2)
     ∙ ap (reversed k) (div-div-eq-div-mul q 2 (2 ^ d) ∙ ap (λ (n : ℕ). q / n) (sym (pow-succ' 2 d)))
+
+-- the library's reversal, which puts the bits behind those that it has
+reverse_onto : (k n a : ℕ) → reverse_bits_onto k n a ≡ a * 2 ^ k + reversed k n
+unfolding reversed reverse_bits_onto
+reverse_onto zero n a = omega arith
+reverse_onto (suc k) n a = reverse_onto k (n / 2) (a * 2 + n % 2) ∙ rw (pow-suc 2 k) (omega arith)
+
+-- a place of 15 bits, one bit up, reversed in 16: the low bits are those of the place that stand above the rate's
+pub first_reversed : (rate place : ℕ)
+    → rate ≤ 15
+    → reverse_bits_onto 16 (place * 2) 0 % 2 ^ (15 - rate) ≡ reversed (15 - rate) (place / 2 ^ rate)
+first_reversed rate place h =
+    let width : 16 ≡ rate + 1 + (15 - rate) = omega arith in
+    let whole : reverse_bits_onto 16 (place * 2) 0 ≡ reversed (rate + 1 + (15 - rate)) (place * 2) =
+    reverse_onto 16 (place * 2) 0 ∙ zero-add _ ∙ ap (λ (k : ℕ). reversed k (place * 2)) width in
+    let half : place * 2 / 2 ≡ place = omega arith in
+    let shifted : place * 2 / 2 ^ (rate + 1) ≡ place / 2 ^ rate =
+    ap (λ (k : ℕ). place * 2 / 2 ^ k) (add-one rate)
+    ∙ ap (λ (n : ℕ). place * 2 / n) (pow-succ' 2 rate)
+    ∙ sym (div-div-eq-div-mul (place * 2) 2 (2 ^ rate))
+    ∙ ap (λ (n : ℕ). n / 2 ^ rate) half in
+    ap (λ (n : ℕ). n % 2 ^ (15 - rate)) whole
+    ∙ reversed_low (rate + 1) (15 - rate) (place * 2)
+    ∙ ap (reversed (15 - rate)) shifted

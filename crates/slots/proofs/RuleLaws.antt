@@ -1,9 +1,10 @@
 -- The rules in order, told apart by their tests: what each number of the rates' rules and of the planner's says, and when it is given.
 -- Assumes nothing.
 use Prim.Native.Nat.{ℕ, ◌*◌, ◌≤◌, ◌<◌}
-use mathlib.Core.Path.{◌≡◌, refl, sym, ap, ap₂, ◌∙◌}
+use mathlib.Core.Path.{◌≡◌, refl, sym, ap, ap₂, ◌∙◌, subst}
 use mathlib.Core.Bool.{Bool, true, false, cond, not}
 use mathlib.Core.List.{List}
+use Rattle.std.proofs.Common.{Result, Ok, Err}
 use native.Mathlib.Omega.{arith}
 use lib.ListN.{length}
 use lib.Dec.{eqb}
@@ -13,12 +14,12 @@ use Rattle.wire.specs.First.{first}
 use Rattle.wire.proofs.FirstLaws.{first_here, first_next}
 use Rattle.slots.specs.Blocks.{top_rate, slot_count, block_size}
 use Rattle.slots.specs.Checking.{rate_at, many_rates, all_low, rate_rules, is_plan, verdict_by, verdict}
-use Rattle.slots.specs.Planning.{wanted, plan_of, overfull, too_short, late_rules, plan_rules, planned, plan_left}
+use Rattle.slots.specs.Planning.{wanted, plan_of, overfull, too_short, late_rules, plan_rules, planned_by, planned, plan_left}
 use Rattle.slots.specs.Plain.{Pass}
 use Rattle.slots.specs.Claims.{Above}
-use Rattle.slots.specs.declared.Planned.{Planned}
-use Rattle.slots.specs.declared.Planned.TheVariants.{Size, Refused as refused_plan}
-use Rattle.slots.specs.declared.Verdict.TheVariants.{Accepted, Refused, NotAPlan}
+use Rattle.slots.specs.Refusals.{number, named}
+use Rattle.slots.specs.declared.refusals.Refusal.{Refusal}
+use Rattle.slots.specs.declared.refusals.Refusal.TheVariants.{ManyRates, HighRate, NoPlan, NoRoom}
 use Rattle.slots.proofs.SumLaws.{every_each, each_every, some_fails}
 
 all_low_lem : (rates : List ℕ) → Pass rates → all_low rates ≡ true
@@ -51,6 +52,14 @@ high_62 rates h above = rw (not_many rates h, one_high rates above)
 pub pass_0 : (rates : List ℕ) → Pass rates → first (rate_rules rates) ≡ 0
 pass_0 rates pass = rw (not_many rates pass.few, all_low_lem rates pass)
 
+-- few rates, and none high, pass
+pub low_pass : (rates : List ℕ) → length rates ≤ 64 → all_low rates ≡ true → Pass rates
+low_pass rates h e =
+    record {
+      few = h;
+      low = λ i l. leb-true (rate_at rates i) top_rate (every_each _ (length rates) e i l);
+    }
+
 -- what the rates are, by the number of their rules
 pub data Rated (rates : List ℕ) : ℕ → Type 0 where
   many : 64 < length rates → Rated rates 61
@@ -65,29 +74,33 @@ rated rates = go (many_rates rates) refl (all_low rates) refl
 
     go : (a : Bool) → many_rates rates ≡ a → (b : Bool) → all_low rates ≡ b → Rated rates (cond a 61 (cond (not b) 62 0))
     go true e b f = many (omega (arith, ltb-true _ (length rates) e))
-    go false e true f =
-        pass
-        (record {
-          few = few_or_many rates e;
-          low = λ i h. leb-true (rate_at rates i) top_rate (every_each _ (length rates) f i h);
-        })
+    go false e true f = pass (low_pass rates (few_or_many rates e) f)
     go false e false f = high (few_or_many rates e) (above f)
 
--- rates of which no rule is broken pass
-pub passing : (rates : List ℕ) → first (rate_rules rates) ≡ 0 → Pass rates
-passing rates e = go (rated rates) e
-  where
-    go : {k : ℕ} → Rated rates k → k ≡ 0 → Pass rates
-    go (many h) w = absurd (omega arith)
-    go (high h above) w = absurd (omega arith)
-    go (pass p) w = p
+-- ---- refusals and their numbers
 
--- a number other than 0 decides the verdict
-pub refused-verdict : (rates plan : List ℕ) (n : ℕ) → n ≡ first (rate_rules rates) → (n ≡ 0 → ⊥) → Refused n ≡ verdict rates plan
+pub named-number : (e : Refusal) → named (number e) ≡ e
+named-number ManyRates = refl
+named-number HighRate = refl
+named-number NoPlan = refl
+named-number NoRoom = refl
+
+pub number_some : (e : Refusal) → number e ≡ 0 → ⊥
+number_some ManyRates h = omega arith
+number_some HighRate h = omega arith
+number_some NoPlan h = omega arith
+number_some NoRoom h = omega arith
+
+-- what answers for a refusal's number answers that refusal
+answered_err : {A : Type 0} (e : Refusal) (x : A) → cond (eqb (number e) 0) (Ok x) (Err (named (number e))) ≡ Err e
+answered_err ManyRates x = refl
+answered_err HighRate x = refl
+answered_err NoPlan x = refl
+answered_err NoRoom x = refl
+
+pub refused-verdict : (rates plan : List ℕ) (e : Refusal) → number e ≡ first (rate_rules rates) → Err e ≡ verdict rates plan
 unfolding verdict
-refused-verdict rates plan n e h =
-    sym (ap (λ (b : Bool). cond b (cond (is_plan rates plan) Accepted NotAPlan) (Refused n)) (ne_eqb n 0 h))
-    ∙ ap (λ (k : ℕ). verdict_by k (is_plan rates plan)) e
+refused-verdict rates plan e h = sym (answered_err e _) ∙ ap (λ (k : ℕ). verdict_by k (is_plan rates plan)) h
 
 -- ---- the planner's rules, for rates that pass
 
@@ -132,22 +145,69 @@ unrefused rates room e = go (rated rates) refl
     go (high h above) own = absurd (omega (arith, early rates room 62 (sym own) (λ z. omega arith)))
     go (pass p) own = tests p _ refl _ refl (late rates room p refl refl ∙ e)
 
+-- the number for the line alone
+abbrev pub room_number : List ℕ → ℕ
+room_number rates = cond (overfull rates) 63 0
+
 -- what the planner answers and leaves, where a rule is broken and where none is
-abbrev pub Outcome : List ℕ → List ℕ → Planned → List ℕ → Type 0
+abbrev pub Outcome : List ℕ → List ℕ → Result ℕ Refusal → List ℕ → Type 0
 Outcome rates out answer left = (answer ≡ planned rates (length out)) × (left ≡ plan_left rates out)
 
-pub refused-plan : (rates out : List ℕ) (n : ℕ)
-    → n ≡ first (plan_rules rates (length out))
-    → (n ≡ 0 → ⊥)
-    → Outcome rates out (refused_plan n) out
-refused-plan rates out n e h =
-    let broken : eqb (first (plan_rules rates (length out))) 0 ≡ false = ne_eqb _ _ (λ none. h (e ∙ none)) in (
-      sym (ap (λ (b : Bool). cond b (Size (block_size * length rates)) (refused_plan n)) broken)
-          ∙ ap (λ (k : ℕ). cond (eqb (first (plan_rules rates (length out))) 0) (Size (block_size * length rates)) (refused_plan k)) e,
-      sym (ap (λ (b : Bool). cond b (splice 0 (plan_of rates) out) out) broken),
-    )
+pub left-refused : (rates out : List ℕ) → (first (plan_rules rates (length out)) ≡ 0 → ⊥) → out ≡ plan_left rates out
+left-refused rates out h = sym (ap (λ (b : Bool). cond b (splice 0 (plan_of rates) out) out) (ne_eqb _ 0 h))
+
+refused-plan : (rates out : List ℕ) (e : Refusal) → number e ≡ first (plan_rules rates (length out)) → Outcome rates out (Err e) out
+refused-plan rates out e h = (
+  sym (answered_err e _) ∙ ap (λ (k : ℕ). planned_by k (block_size * length rates)) h,
+  left-refused rates out (λ none. number_some e (h ∙ none)),
+)
+
+pub refused-early : (rates out : List ℕ) (e : Refusal) → number e ≡ first (rate_rules rates) → Outcome rates out (Err e) out
+refused-early rates out e h = refused-plan rates out e (early rates (length out) _ h (number_some e))
+
+refused-late : (rates out : List ℕ) (e : Refusal) → Pass rates → number e ≡ room_number rates → Outcome rates out (Err e) out
+refused-late rates out e p h = go (overfull rates) refl
+  where
+    go : (b : Bool) → overfull rates ≡ b → Outcome rates out (Err e) out
+    go true over = refused-plan rates out e (h ∙ ap (λ (b : Bool). late_number b false) over ∙ late rates (length out) p over refl)
+    go false over = absurd (number_some e (h ∙ ap (λ (b : Bool). late_number b false) over))
+
+-- rates with room on the line
+has_room : (rates : List ℕ) → 0 ≡ room_number rates → overfull rates ≡ false
+has_room rates h = go (overfull rates) refl
+  where
+    go : (b : Bool) → overfull rates ≡ b → b ≡ false
+    go true over = absurd (omega (arith, h ∙ ap (λ (b : Bool). late_number b false) over))
+    go false over = refl
+
+refused-short : (rates out : List ℕ)
+    → Pass rates
+    → 0 ≡ room_number rates
+    → length out < block_size * length rates
+    → Outcome rates out (Err NoRoom) out
+refused-short rates out p h short = refused-plan rates out NoRoom (late rates (length out) p (has_room rates h) (lt-ltb _ _ short))
 
 pub written-plan : (rates out : List ℕ)
     → first (plan_rules rates (length out)) ≡ 0
-    → Outcome rates out (Size (block_size * length rates)) (splice 0 (plan_of rates) out)
+    → Outcome rates out (Ok (block_size * length rates)) (splice 0 (plan_of rates) out)
 written-plan rates out e = rw e (refl, refl)
+
+written-room : (rates out : List ℕ)
+    → Pass rates
+    → 0 ≡ room_number rates
+    → block_size * length rates ≤ length out
+    → Outcome rates out (Ok (block_size * length rates)) (splice 0 (plan_of rates) out)
+written-room rates out p h long = written-plan rates out (sym (late rates (length out) p (has_room rates h) (le-ltb _ _ long)))
+
+-- the same, for rates that came as this list
+module _ (rates out : List ℕ) {list : List ℕ} (same : list ≡ rates) (p : Pass list) where
+  pub late-refused : (e : Refusal) → number e ≡ room_number list → Outcome rates out (Err e) out
+  late-refused e h = refused-late rates out e (subst Pass same p) (h ∙ ap room_number same)
+
+  pub short-refused : 0 ≡ room_number list → length out < block_size * length rates → Outcome rates out (Err NoRoom) out
+  short-refused h short = refused-short rates out (subst Pass same p) (h ∙ ap room_number same) short
+
+  pub plan-written : 0 ≡ room_number list
+      → block_size * length rates ≤ length out
+      → Outcome rates out (Ok (block_size * length rates)) (splice 0 (plan_of rates) out)
+  plan-written h long = written-room rates out (subst Pass same p) (h ∙ ap room_number same) long

@@ -2,16 +2,24 @@
 -- The one that counts a block is `sum_grid`: pairs of a remainder and a quotient are counted by a product.
 -- Assumes nothing.
 use Prim.Native.Nat.{ℕ, zero, suc, ◌+◌, ◌*◌, ◌/◌, ◌%◌, ◌≤◌, ◌<◌, zero-le}
-use mathlib.Core.Path.{◌≡◌, refl, sym, ap, ap₂, ◌∙◌, subst}
+use mathlib.Core.Path.{◌≡◌, refl, sym, ap, ap₂, ◌∙◌}
 use mathlib.Core.Bool.{Bool, true, false, cond, ◌&&◌, false≢true}
 use mathlib.Core.Logic.{◌⊎◌, ⊎_elim}
-use native.Mathlib.Nat.{le_antisymm, not-suc-le-zero, le_of_suc-le-suc, eq-or-lt_of_le, add-zero, add-suc, add_assoc, mul-zero, mul-suc, mul-one}
+use native.Mathlib.Nat.{not-suc-le-zero, le_of_suc-le-suc, eq-or-lt_of_le, add-zero, zero-add, add-suc, add_assoc, mul-zero, mul-suc, mul-one}
 use native.Mathlib.Nat.{mod-eq_of_lt, div-eq_of_lt, mul-add-mod_self_left, mul-add-div}
 use native.Mathlib.Numerals.{add-one}
 use native.Mathlib.Omega.{arith}
 use lib.Dec.{eqb}
+use lib.ListN.{length, get_or}
+use mathlib.Core.List.{List, map}
+use Rattle.std.proofs.Math.Bool.{and-true, and-false}
+use Rattle.std.specs.List.{list_all, range_with_len, sum as list_sum}
+use Rattle.std.proofs.lemmas.List.Elements.{All-from_get_or}
+use Rattle.std.proofs.lemmas.List.Folds.{list_all_at}
+use Rattle.std.proofs.lemmas.List.Sums.{list_all-from_AllPass}
+use Rattle.std.proofs.lemmas.List.FromFn.{length-range_with_len, get_or-range_with_len, sum_by-map-range_with_len_more}
 use borrow.Author.Tests.{eq-eqb, ne_eqb, eqb-true}
-use Rattle.wire.proofs.TableLaws.{both_true}
+use Rattle.std.proofs.lemmas.Bool.{and_parts}
 use Rattle.slots.specs.Checking.{every}
 use Rattle.slots.specs.Planning.{sum}
 use Rattle.slots.specs.Plain.{count}
@@ -26,7 +34,7 @@ pub every_each : (p : ℕ → Bool) (n : ℕ) → every p n ≡ true → (i : �
 unfolding every
 every_each p zero e i h = absurd (not-suc-le-zero h)
 every_each p (suc n) e i h =
-    let both = both_true (every p n) (p n) e in
+    let both = and_parts (every p n) (p n) e in
     ⊎_elim (λ (q : i ≡ n). ap p q ∙ both.1) (λ (l : i < n). every_each p n both.0 i l) (last-or_below h)
 
 pub each_every : (p : ℕ → Bool) (n : ℕ) → ((i : ℕ) → i < n → p i ≡ true) → every p n ≡ true
@@ -48,21 +56,27 @@ some_fails p (suc n) e = go (every p n) refl e (some_fails p n)
     go true ea w before = (n, omega arith, w)
     go false ea w before = let found = before ea in (found.0, omega (arith, found.1), found.2)
 
--- one that does not pass, wherever it stands
-pub every_fails : (p : ℕ → Bool) (n i : ℕ) → i < n → p i ≡ false → every p n ≡ false
-every_fails p n i h e = go (every p n) refl
-  where
-    go : (b : Bool) → every p n ≡ b → b ≡ false
-    go true all = absurd (false≢true (sym e ∙ every_each p n all i h))
-    go false some = refl
-
--- a turn of a loop that tests one after the other, and its end
-pub every_more : (p : ℕ → Bool) (i : ℕ) → every p i ≡ true → p i ≡ true → every p (i + 1) ≡ true
+every_same : (p q : ℕ → Bool) (n : ℕ) → ((i : ℕ) → i < n → p i ≡ q i) → every p n ≡ every q n
 unfolding every
-every_more p i all here = rw (add-one i) (ap₂ ◌&&◌ all here)
+every_same p q zero h = refl
+every_same p q (suc n) h = ap₂ ◌&&◌ (every_same p q n (λ i l. h i (omega arith))) (h n (omega arith))
 
-pub every_whole : (p : ℕ → Bool) (i n : ℕ) → i ≤ n → n ≤ i → every p i ≡ true → every p n ≡ true
-every_whole p i n h l = subst (λ (k : ℕ). every p k ≡ true) (le_antisymm h l)
+-- the library's `list_all` of a list's elements, and of the numbers below one
+pub every_element : (p : ℕ → Bool) (xs : List ℕ) → list_all p xs ≡ every (λ i. p (get_or xs i 0)) (length xs)
+every_element p xs = go (every here (length xs)) refl
+  where
+    here : ℕ → Bool
+    here i = p (get_or xs i 0)
+
+    go : (b : Bool) → every here (length xs) ≡ b → list_all p xs ≡ b
+    go true e = list_all-from_AllPass p xs (All-from_get_or (λ (x : ℕ). p x ≡ true) xs 0 (every_each here (length xs) e))
+    go false e = let found = some_fails here (length xs) e in list_all_at p xs found.0 0 found.1 found.2
+
+pub every_below : (p : ℕ → Bool) (n : ℕ) → list_all p (range_with_len 0 n) ≡ every p n
+every_below p n =
+    every_element p (range_with_len 0 n)
+    ∙ ap (every (λ i. p (get_or (range_with_len 0 n) i 0))) (length-range_with_len 0 n)
+    ∙ every_same _ p n (λ i l. ap p (get_or-range_with_len 0 n i 0 l ∙ zero-add i))
 
 -- ---- sums
 
@@ -76,13 +90,14 @@ unfolding sum
 sum-le f g zero h = zero-le
 sum-le f g (suc n) h = omega (arith, sum-le f g n (λ i l. h i (omega arith)), h n (omega arith))
 
--- a turn of a loop that adds one term after the other, and its end
-pub sum_turn : (f : ℕ → ℕ) (n : ℕ) {s t : ℕ} → s ≡ sum f n → t ≡ f n → s + t ≡ sum f (n + 1)
+-- the library's sum of a list of terms
+pub sum_listed : (f : ℕ → ℕ) (n : ℕ) → list_sum (map f (range_with_len 0 n)) ≡ sum f n
 unfolding sum
-sum_turn f n so_far here = ap₂ ◌+◌ so_far here ∙ sym (ap (sum f) (add-one n))
-
-pub sum_whole : (f : ℕ → ℕ) (i n s : ℕ) → i ≤ n → n ≤ i → s ≡ sum f i → s ≡ sum f n
-sum_whole f i n s h l e = e ∙ ap (sum f) (le_antisymm h l)
+sum_listed f zero = refl
+sum_listed f (suc n) =
+    ap (λ (m : ℕ). list_sum (map f (range_with_len 0 m))) (sym (add-one n))
+    ∙ sum_by-map-range_with_len_more (λ (x : ℕ). x) f 0 n n (zero-add n)
+    ∙ ap (λ (m : ℕ). m + f n) (sum_listed f n)
 
 pub sum_const : (c n : ℕ) → sum (λ _. c) n ≡ c * n
 unfolding sum
@@ -185,16 +200,9 @@ at_most_one p (suc n) h = go (p n) refl (at_most_one p n (λ i j li lj. h i j (o
     go false e l = omega arith
 
 sum-and : (q : ℕ → Bool) (b : Bool) (m : ℕ) → sum (λ i. bit (q i && b)) m ≡ sum (λ i. bit (q i)) m * bit b
-sum-and q true m = sum_same _ _ m (λ i l. keep (q i)) ∙ sym (mul-one _)
-  where
-    keep : (a : Bool) → bit (a && true) ≡ bit a
-    keep true = refl
-    keep false = refl
-sum-and q false m = sum_same _ (λ _. 0) m (λ i l. drop (q i)) ∙ sum_const 0 m ∙ omega (arith, mul-zero (sum (λ i. bit (q i)) m))
-  where
-    drop : (a : Bool) → bit (a && false) ≡ 0
-    drop true = refl
-    drop false = refl
+sum-and q true m = sum_same _ _ m (λ i l. ap bit (and-true (q i))) ∙ sym (mul-one _)
+sum-and q false m =
+    sum_same _ (λ _. 0) m (λ i l. ap bit (and-false (q i))) ∙ sum_const 0 m ∙ omega (arith, mul-zero (sum (λ i. bit (q i)) m))
 
 -- numbers below m * n with a remainder that passes one test and a quotient that passes another
 pub sum_grid : (q p : ℕ → Bool) (m n : ℕ)

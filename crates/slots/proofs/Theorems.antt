@@ -17,21 +17,26 @@ use Rattle.slots.specs.Blocks.{block_size}
 use Rattle.slots.specs.Checking.{rate_rules, is_plan, verdict_by, verdict, verdict_says}
 use Rattle.slots.specs.Planning.{wanted, plan_of, overfull, too_short, plan_rules, planned_by, planned, plan_left, planned_says}
 use Rattle.slots.specs.Plain.{Pass, Plan, total}
-use Rattle.slots.specs.Claims.{Checked, CheckIsRight, NoPlan, Answered, Says, PlannerIsRight, BlockHasItsSlots}
+use Rattle.slots.specs.Claims.{Checked, CheckIsRight, NoPlan, Answered, Says, PlannerIsRight, BlockHasItsSlots, RefusalsHaveNumbers}
 use Rattle.slots.specs.Claims.Checked.{more_than_64, rate_above_15, accepted, not_a_plan}
 use Rattle.slots.specs.Claims.Answered.{more_than_64 as more-rates, rate_above_15 as high-rate, no_plan_exists, short_output, written}
-use Rattle.slots.proofs.OrderLaws.{below_or_not}
+use Rattle.std.proofs.lemmas.Bool.{cases_lt}
 use Rattle.slots.proofs.BlockLaws.{block_has}
 use Rattle.slots.proofs.CheckLaws.{checked-plan, plan_checked}
 use Rattle.slots.proofs.PlanLaws.{length-plan, our_plan}
 use Rattle.slots.proofs.CountLaws.{total-wanted, plan-total}
-use Rattle.slots.proofs.RuleLaws.{many_61, high_62, pass_0, Rated, rated, early, late, late_number, unrefused, refused-plan, written-plan}
+use Rattle.slots.proofs.RuleLaws.{named-number, many_61, high_62, pass_0, Rated, rated, early, late, late_number, unrefused, left-refused, written-plan}
 use Rattle.slots.proofs.RuleLaws.Rated.{many, high, pass}
 
 -- ---- a block
 
 pub block_has_its_slots : BlockHasItsSlots
 block_has_its_slots = block_has
+
+-- ---- the refusals
+
+pub refusals_have_numbers : RefusalsHaveNumbers
+refusals_have_numbers = record { by_number = named-number; n_61 = refl; n_62 = refl; n_63 = refl; n_16 = refl }
 
 -- ---- the check
 
@@ -88,7 +93,7 @@ pub over_none : (rates : List ℕ) → 98304 < total rates → NoPlan rates
 over_none rates over plan p = omega (arith, plan-total rates plan p)
 
 pub none_over : (rates : List ℕ) → Pass rates → NoPlan rates → 98304 < total rates
-none_over rates p none = go (below_or_not 98304 (total rates))
+none_over rates p none = go (cases_lt 98304 (total rates))
   where
     go : (98304 < total rates) ⊎ (total rates ≤ 98304) → 98304 < total rates
     go (inl over) = over
@@ -178,14 +183,11 @@ module _ (rates out : List ℕ) where
       ∙ splice-start (plan_of rates) out fits
       ∙ ap (λ (n : ℕ). plan_of rates ++ drop n out) (length-plan rates (length rates))
 
-  left-refused : (number ≡ 0 → ⊥) → plan_left rates out ≡ out
-  left-refused h = sym (refused-plan rates out number refl h).1
-
   kept_behind : (b : Bool) → eqb number 0 ≡ b → drop (4 * length rates) (plan_left rates out) ≡ drop (4 * length rates) out
   kept_behind true e =
       ap (drop (4 * length rates)) (left-written (eqb-true number 0 e))
       ∙ drop_at (plan_of rates) _ _ (length-plan rates (length rates))
-  kept_behind false e = ap (drop (4 * length rates)) (left-refused (eqb-false number 0 e))
+  kept_behind false e = ap (drop (4 * length rates)) (sym (left-refused rates out (eqb-false number 0 e)))
 
   -- an answer of a number alone is a refusal
   refused : (n : ℕ) → Says rates out (n ∷ []) → number ≡ 0 → ⊥
@@ -211,7 +213,7 @@ module _ (rates out : List ℕ) where
         answers = λ v. (λ e. subst (Answered rates (length out)) e all, only_answered rates (length out) v);
         passes = written_passes;
         behind = kept_behind (eqb number 0) refl;
-        unwritten = λ n e. left-refused (refused n e);
+        unwritten = λ n e. sym (left-refused rates out (refused n e));
         refused_63 = (
           λ e. is_63 rates (length out) (subst (Answered rates (length out)) e all),
           λ both. only_answered rates (length out) (63 ∷ []) (no_plan_exists both.0 both.1),

@@ -1,10 +1,12 @@
 -- What the check does: the rates' own rules, then a plan's size, each block by itself, and each pair of blocks (02, R-14).
-use Rattle.std.specs.Prelude.{ℕ, zero, suc, ◌*◌, ◌%◌, max, Bool, true, cond, not, ◌&&◌, List, [], ◌∷◌, length, get_or, eqb, leb, ltb}
-use Rattle.wire.specs.First.{Refusal, ◌given_when◌, first}
+use Rattle.std.specs.Prelude.{ℕ, zero, suc, ◌*◌, ◌%◌, max, Bool, true, cond, not, ◌&&◌, List, [], ◌∷◌, Result, Ok, Err, length, get_or, eqb, leb, ltb}
+use Rattle.wire.specs.First.{Refusal as Rule, ◌given_when◌, first}
 use Rattle.slots.specs.Blocks.{set_count, top_rate, modulus, block_size, block_at}
+use Rattle.slots.specs.Refusals.{number, named}
 use Rattle.slots.specs.declared.Block.{Block}
 use Rattle.slots.specs.declared.Verdict.{Verdict}
-use Rattle.slots.specs.declared.Verdict.TheVariants.{Accepted, Refused, NotAPlan}
+use Rattle.slots.specs.declared.Verdict.TheVariants.{Accepted, NotAPlan}
+use Rattle.slots.specs.declared.refusals.Refusal.{Refusal}
 
 -- "A planner takes up to 64 rates"
 abbrev pub most_rates : ℕ
@@ -25,7 +27,7 @@ abbrev pub all_low : List ℕ → Bool
 all_low rates = every (λ i. leb (rate_at rates i) top_rate) (length rates)
 
 -- "61 for more than 64 rates, 62 for a rate above 15"
-abbrev pub rate_rules : List ℕ → List Refusal
+abbrev pub rate_rules : List ℕ → List Rule
 rate_rules rates =
     (61 given_when many_rates rates)
     ∷ (62 given_when not (all_low rates))
@@ -62,14 +64,14 @@ abbrev pub is_plan : List ℕ → List ℕ → Bool
 is_plan rates plan = eqb (length plan) (block_size * length rates) && every (good_at rates plan) (length rates)
 
 -- what the check answers, by the rates' number and whether the bytes are a plan
-abbrev pub verdict_by : ℕ → Bool → Verdict
-verdict_by number good = cond (eqb number 0) (cond good Accepted NotAPlan) (Refused number)
+abbrev pub verdict_by : ℕ → Bool → Result Verdict Refusal
+verdict_by n good = cond (eqb n 0) (Ok (cond good Accepted NotAPlan)) (Err (named n))
 
-unfoldable pub verdict : List ℕ → List ℕ → Verdict
+unfoldable pub verdict : List ℕ → List ℕ → Result Verdict Refusal
 verdict rates plan = verdict_by (first (rate_rules rates)) (is_plan rates plan)
 
 -- document 02's number for each answer: 0 is accepted, and "not a plan" has no number
-abbrev pub verdict_says : Verdict → List ℕ
-verdict_says Accepted = 0 ∷ []
-verdict_says (Refused n) = n ∷ []
-verdict_says NotAPlan = []
+abbrev pub verdict_says : Result Verdict Refusal → List ℕ
+verdict_says (Ok Accepted) = 0 ∷ []
+verdict_says (Ok NotAPlan) = []
+verdict_says (Err refusal) = number refusal ∷ []

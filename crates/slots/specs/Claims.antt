@@ -3,6 +3,8 @@ use Rattle.std.specs.Prelude.{ℕ, ◌-◌, ◌*◌, ◌^◌, ◌≤◌, ◌<◌
 use Rattle.slots.specs.Checking.{verdict, verdict_says}
 use Rattle.slots.specs.Planning.{planned, plan_left, planned_says}
 use Rattle.slots.specs.Plain.{Pass, Plan, total, count, has}
+use Rattle.slots.specs.Refusals.{number, named}
+use Rattle.slots.specs.declared.refusals.Refusal.{Refusal}
 
 -- "a rate above 15"
 abbrev pub Above : List ℕ → Type 0
@@ -55,3 +57,11 @@ BlockHasItsSlots =
     → rate ≤ 15
     → first < 2 ^ (15 - rate)
     → count (has set rate first) 98304 ≡ 2 ^ rate
+
+-- a refusal is named by its number, and its number by the refusal
+pub record RefusalsHaveNumbers : Type 0 where
+  pub by_number : (refusal : Refusal) → named (number refusal) ≡ refusal
+  pub n_61 : number (named 61) ≡ 61
+  pub n_62 : number (named 62) ≡ 62
+  pub n_63 : number (named 63) ≡ 63
+  pub n_16 : number (named 16) ≡ 16

@@ -1,4 +1,5 @@
 -- Slots, blocks and plans: what the check and the planner do, and in plain numbers what a plan is.
+pub mod Refusals
 pub mod Blocks
 pub mod Checking
 pub mod Planning

@@ -1,13 +1,13 @@
 -- What the planner does: blocks stand by falling rate one behind the other on a line of three sets, and a block's place within
 -- its set, read with its bits reversed, is its first index (02, R-14).
-use Rattle.std.specs.Prelude.{ℕ, zero, suc, ◌+◌, ◌-◌, ◌*◌, ◌/◌, ◌%◌, ◌^◌, Bool, cond, List, [], ◌∷◌, ◌++◌, length, eqb, ltb}
+use Rattle.std.specs.Prelude.{ℕ, zero, suc, ◌+◌, ◌-◌, ◌*◌, ◌/◌, ◌%◌, ◌^◌, Bool, cond, List, [], ◌∷◌, ◌++◌, Result, Ok, Err, length, eqb, ltb}
 use Rattle.wire.specs.Bytes.{splice}
-use Rattle.wire.specs.First.{Refusal, ◌given_when◌, first}
+use Rattle.wire.specs.First.{Refusal as Rule, ◌given_when◌, first}
 use Rattle.slots.specs.Blocks.{top_rate, set_size, slot_count, block_size, block_bytes}
 use Rattle.slots.specs.Checking.{most_rates, rate_at, rate_rules}
+use Rattle.slots.specs.Refusals.{number, named}
 use Rattle.slots.specs.declared.Block.{Block}
-use Rattle.slots.specs.declared.Planned.{Planned}
-use Rattle.slots.specs.declared.Planned.TheVariants.{Size, Refused}
+use Rattle.slots.specs.declared.refusals.Refusal.{Refusal}
 
 -- f 0 + f 1 + .. + f (n − 1)
 unfoldable pub sum : (ℕ → ℕ) → ℕ → ℕ
@@ -73,27 +73,27 @@ overfull rates = overfull_by (wanted rates)
 abbrev pub too_short : List ℕ → ℕ → Bool
 too_short rates room = ltb room (block_size * length rates)
 
-abbrev pub late_rules : List ℕ → ℕ → List Refusal
+abbrev pub late_rules : List ℕ → ℕ → List Rule
 late_rules rates room =
     (63 given_when overfull rates)
     ∷ (16 given_when too_short rates room)
     ∷ []
 
 -- 61, 62, 63, 16
-unfoldable pub plan_rules : List ℕ → ℕ → List Refusal
+unfoldable pub plan_rules : List ℕ → ℕ → List Rule
 plan_rules rates room = rate_rules rates ++ late_rules rates room
 
-abbrev pub planned_by : ℕ → ℕ → Planned
-planned_by number size = cond (eqb number 0) (Size size) (Refused number)
+abbrev pub planned_by : ℕ → ℕ → Result ℕ Refusal
+planned_by n size = cond (eqb n 0) (Ok size) (Err (named n))
 
 -- what the planner answers for an output of so many bytes, and what it leaves in the output
-abbrev pub planned : List ℕ → ℕ → Planned
+abbrev pub planned : List ℕ → ℕ → Result ℕ Refusal
 planned rates room = planned_by (first (plan_rules rates room)) (block_size * length rates)
 
 abbrev pub plan_left : List ℕ → List ℕ → List ℕ
 plan_left rates out = cond (eqb (first (plan_rules rates (length out))) 0) (splice 0 (plan_of rates) out) out
 
 -- document 02's number for each answer, and the size written
-abbrev pub planned_says : Planned → List ℕ
-planned_says (Size n) = 0 ∷ n ∷ []
-planned_says (Refused n) = n ∷ []
+abbrev pub planned_says : Result ℕ Refusal → List ℕ
+planned_says (Ok size) = 0 ∷ size ∷ []
+planned_says (Err refusal) = number refusal ∷ []

@@ -1,173 +1,124 @@
 // The planner: names a block for each rate, in the rates' order (document 02, R-14). Blocks stand by falling rate one behind the other on
 // a line of the three sets; a block's start there gives its set, and read with its bits reversed its first index.
-ghost use Rattle.std.specs.Prelude.{◌≡◌, ◌+◌, ◌*◌, ◌%◌, ◌^◌, ◌≤◌, ◌<◌, length};
+ghost use Rattle.std.specs.Prelude.{◌≡◌, ◌+◌, ◌*◌, ◌%◌, ◌^◌, ◌≤◌, ◌<◌, length, cond, IfOk};
 ghost use Rattle.wire.specs.Bytes.{splice};
-ghost use Rattle.wire.specs.First.{first};
-ghost use Rattle.slots.specs.Blocks.{slot_count, block_bytes};
-ghost use Rattle.slots.specs.Planning.{wanted, rank, size_before, start_at, reversed, block_from, block_for, block_in_place};
+ghost use Rattle.slots.specs.Blocks.{slot_count};
+ghost use Rattle.slots.specs.Planning.{wanted, rank, size_at, size_before, start_at, block_from, block_for, overfull};
 ghost use Rattle.slots.specs.Planning.{plan_of, plan_rules, planned, plan_left};
-ghost use Rattle.slots.specs.Plain.{Pass};
+ghost use Rattle.slots.specs.Refusals.{refused};
 
-use super::{Block, Planned, refusals};
+use super::rates::Rates;
+use super::{Block, Refusal, power};
 
 // The slots of all three sets.
 const ALL_SLOTS: u32 = 98304;
 
-// 2 to the rate.
-fn power(rate: u8) -> u32
-    requires { rate ≤ 15 }
-    ensures { (result ≡ 2 ^ rate) × ((0 < result) × (result ≤ 32768)) }
-{
-    1u32 << rate
-}
-
-// A block's place in the order on the line.
-fn rank_of(rates: &[u8], i: usize) -> usize
-    requires { Pass rates.now × (i < length rates.now) }
-    ensures { result ≡ rank rates.now i }
-{
-    (15 - rates[i]) as usize * 64 + i
-}
-
-// What block j takes of the line before block i.
-fn size_before(rates: &[u8], i: usize, j: usize) -> u32
-    requires { Pass rates.now × ((i < length rates.now) × (j < length rates.now)) }
-    ensures { (result ≡ size_before rates.now i j) × (result ≤ 32768) }
-{
-    if rank_of(rates, j) < rank_of(rates, i) {
-        return power(rates[j]);
-    }
-    0
-}
-
-// Where block i starts on the line.
-fn start_at(rates: &[u8], i: usize) -> u32
-    requires { Pass rates.now × (i < length rates.now) }
-    ensures { result ≡ start_at rates.now i }
-{
-    let mut start: u32 = 0;
-    let mut j = 0;
-    while j < rates.len() {
-        start += size_before(rates, i, j);
-        j += 1;
-    }
-    start
-}
-
-// How many slots the rates want.
-fn wanted_slots(rates: &[u8]) -> u32
-    requires { Pass rates.now }
-    ensures { result ≡ wanted rates.now }
-{
-    let mut slots: u32 = 0;
-    let mut i = 0;
-    while i < rates.len() {
-        slots += power(rates[i]);
-        i += 1;
-    }
-    slots
-}
-
-// The lowest bit of a number, moved up by so many places.
-fn moved_up(value: u32, places: u8) -> u32
-    requires { places ≤ 15 }
-    ensures { (result ≡ value % 2 * 2 ^ places) × (result ≤ 32768) }
-{
-    value % 2 * power(places)
-}
-
-// The lowest k bits of a number in the other order.
-fn reversed_bits(k: u8, value: u32) -> u16
-    requires { k ≤ 15 }
-    ensures { result ≡ reversed k value }
-{
-    let mut left = k;
-    let mut rest = value;
-    let mut sum: u32 = 0;
-    while 0 < left {
-        left -= 1;
-        sum += moved_up(rest, left);
-        rest /= 2;
-    }
-    sum as u16
-}
-
-// The block of a rate that starts at a place of the line.
+// The block of a rate that starts at a place of the line. Sixteen bits are reversed: the fifteen of a place in its set stand one bit up.
 fn block_from(rate: u8, start: u32) -> Block
     requires { (rate ≤ 15) × (start < slot_count) }
     ensures { result ≡ block_from rate start }
 {
     let set = (start / 32768) as u8;
-    let first = reversed_bits(15 - rate, start % 32768 / power(rate));
+    let place = (start % 32768 * 2) as u16;
+    let first = (u32::from(place.reverse_bits()) % power(15 - rate)) as u16;
     Block { set, rate, first }
 }
 
-// Our block for rate i.
-fn block_for(rates: &[u8], i: usize) -> Block
-    requires { Pass rates.now × ((wanted rates.now ≤ slot_count) × (i < length rates.now)) }
-    ensures { result ≡ block_for rates.now i }
-{
-    block_from(rates[i], start_at(rates, i))
-}
+// That i is a place of the list stands in each `requires`: it is of the call and not of the rates, so that a type for it would be no plainer.
+impl<'a> Rates<'a> {
+    // How many slots block i has.
+    fn size_at(self, i: usize) -> u32
+        requires { i < length self.list.now }
+        ensures { (result ≡ size_at self.entry.list.now i) × (result ≤ 32768) }
+    {
+        power(self.list[i])
+    }
 
-// The block at place i of our plan.
-fn block_in_place(rates: &[u8], i: usize) -> Block
-    requires { Pass rates.now × ((wanted rates.now ≤ slot_count) × (i < length rates.now)) }
-    ensures { result ≡ block_in_place rates.now i }
-{
-    block_for(rates, i)
-}
+    // A block's place in the order on the line: one number, as `rank` (specs/Planning) has it.
+    fn rank_of(self, i: usize) -> usize
+        requires { i < length self.list.now }
+        ensures { result ≡ rank self.entry.list.now i }
+    {
+        usize::from(15 - self.list[i]) * 64 + i
+    }
 
-// Writes block i of a plan.
-fn put_block(out: &mut [u8], i: usize, b: Block)
-    requires { 4 * i + 4 ≤ length out.old }
-    ensures { out.new ≡ splice (4 * i) (block_bytes b) out.old }
-{
-    let at = 4 * i;
-    wire::put_u8(out, at, b.set);
-    wire::put_u8(out, at + 1, b.rate);
-    wire::put_u16(out, at + 1 + 1, b.first);
-}
+    // What block j takes of the line before block i.
+    fn size_before(self, i: usize, j: usize) -> u32
+        requires { (i < length self.list.now) × (j < length self.list.now) }
+        ensures { (result ≡ size_before self.entry.list.now i j) × (result ≤ 32768) }
+    {
+        if self.rank_of(j) < self.rank_of(i) {
+            return self.size_at(j);
+        }
+        0
+    }
 
-// Writes the whole plan at the output's start.
-fn put_plan(rates: &[u8], out: &mut [u8])
-    requires { Pass rates.now × ((wanted rates.now ≤ slot_count) × (4 * length rates.now ≤ length out.old)) }
-    ensures { out.new ≡ splice 0 (plan_of rates.now) out.old }
-{
-    let mut i = 0;
-    while i < rates.len() {
-        put_block(out, i, block_in_place(rates, i));
-        i += 1;
+    // Where block i starts on the line.
+    fn start_at(self, i: usize) -> u32
+        requires { i < length self.list.now }
+        ensures { result ≡ start_at self.entry.list.now i }
+    {
+        (0..self.list.len()).map(|j| self.size_before(i, j)).sum()
+    }
+
+    // How many slots the rates want.
+    fn wanted(self) -> u32
+        ensures { result ≡ wanted self.entry.list.now }
+    {
+        (0..self.list.len()).map(|i| self.size_at(i)).sum()
+    }
+
+    // The rates as a line for which there is room, or 63.
+    fn line(self) -> Result<Line<'a>, Refusal>
+        ensures refused { refused result ≡ cond (overfull self.entry.list.now) 63 0 }
+        ensures rates { IfOk result (λ line. line.rates.list.now ≡ self.entry.list.now) }
+    {
+        if ALL_SLOTS < self.wanted() {
+            return Err(Refusal::NoPlan);
+        }
+        Ok(Line { rates: self })
     }
 }
 
-// The number of the first refusal for an output of so many bytes, or 0.
-fn plan_refusal(rates: &[u8], room: usize) -> u8
-    ensures { result ≡ first (plan_rules rates.now room) }
-{
-    let number = super::rate_refusal(rates);
-    if number != 0 {
-        return number;
+// The blocks of rates for which there is room on the line.
+#[derive(Clone, Copy)]
+struct Line<'a> {
+    rates: Rates<'a>,
+    ghost room: { wanted rates.list.now ≤ slot_count },
+}
+
+impl Line<'_> {
+    // Our block for rate i.
+    fn block_for(self, i: usize) -> Block
+        requires { i < length self.rates.list.now }
+        ensures { result ≡ block_for self.entry.rates.list.now i }
+    {
+        block_from(self.rates.list[i], self.rates.start_at(i))
     }
-    if ALL_SLOTS < wanted_slots(rates) {
-        return refusals::NO_PLAN;
+
+    // Writes the whole plan at the output's start.
+    fn put(self, out: &mut [u8])
+        requires { 4 * length self.rates.list.now ≤ length out.old }
+        ensures { out.new ≡ splice 0 (plan_of self.entry.rates.list.now) out.old }
+    {
+        // Over the places' numbers: block i is of rate i, and stands at place i of the output.
+        for i in 0..self.rates.list.len() {
+            self.block_for(i).put(out, i);
+        }
     }
-    if room < 4 * rates.len() {
-        return refusals::NO_ROOM;
-    }
-    0
 }
 
 // Writes a plan for the rates from the start of `out`, four bytes for each block (set, rate, first index), and answers its size; or answers
 // 61, 62, 63 or 16 and writes nothing.
-pub fn plan(rates: &[u8], out: &mut [u8]) -> Planned
+pub fn plan(rates: &[u8], out: &mut [u8]) -> Result<usize, Refusal>
     ensures answer { result ≡ planned rates.now (length out.old) }
     ensures output { out.new ≡ plan_left rates.now out.old }
 {
-    let number = plan_refusal(rates, out.len());
-    if number != 0 {
-        return Planned::Refused(number);
+    let line = Rates::new(rates)?.line()?;
+    let size = 4 * rates.len();
+    if out.len() < size {
+        return Err(Refusal::NoRoom);
     }
-    put_plan(rates, out);
-    Planned::Size(4 * rates.len())
+    line.put(out);
+    Ok(size)
 }

@@ -1,13 +1,26 @@
-// The numbers of the refusals of the check and the planner (document 02, R-14; 16 is document 01's).
+// The refusals of the check and the planner (document 02, R-14; 16 is document 01's).
+ghost use Rattle.std.specs.Prelude.{◌≡◌};
 
-// More than 64 rates.
-pub(crate) const MANY_RATES: u8 = 61;
+// Each with its number there.
+#[derive(Clone, Copy, Debug, PartialEq, Eq)]
+pub enum Refusal {
+    // More than 64 rates.
+    ManyRates = 61,
+    // A rate above 15.
+    HighRate = 62,
+    // No plan exists.
+    NoPlan = 63,
+    // The lent output is shorter than the plan.
+    NoRoom = 16,
+}
 
-// A rate above 15.
-pub(crate) const HIGH_RATE: u8 = 62;
+impl Refusal {
+    ghost use Rattle.slots.specs.Refusals.{number};
 
-// No plan exists.
-pub(crate) const NO_PLAN: u8 = 63;
-
-// The lent output is shorter than the plan.
-pub(crate) const NO_ROOM: u8 = 16;
+    // The number that the documents give it.
+    pub fn number(self) -> u8
+        ensures { result ≡ number self }
+    {
+        self as u8
+    }
+}

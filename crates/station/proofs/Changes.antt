@@ -86,7 +86,7 @@ one_signal : {g g' : Signal} (r : Reading) (n n' : ℕ) → r ≡ a_signal g n �
 one_signal r n n' p q = cc
 
 not-both : {g : Signal} {t : Transmitter} (r : Reading) (n : ℕ) → r ≡ a_signal g n → r ≡ a_transmitter t → ⊥
-not-both r n p q = let z : ◌≡◌ {A = ℕ} 0 1 = cc in omega arith
+not-both r n p q = cc
 
 -- the Signals of one call are the same, and none is a Transmitter
 same_signal : {d d' : List ℕ} {g g' : Signal} → datagram d ≡ datagram d' → IsSignal d g → IsSignal d' g' → g ≡ g'
@@ -102,7 +102,7 @@ no-transmitter {d = d} {d' = d'} {g = g} same (n, p) q =
     not-both (reading d') n (subst (λ (l : List ℕ). reading l ≡ a_signal g n) (same_bytes same) p) q
 
 no_time : {t : ℕ} {d : List ℕ} → (c : Call) → c ≡ datagram d → c ≡ time t → ⊥
-no_time c p q = let z : ◌≡◌ {A = ℕ} 0 1 = cc in omega arith
+no_time c p q = cc
 
 -- ---- outsiders
 

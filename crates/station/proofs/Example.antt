@@ -10,7 +10,7 @@ use Rattle.pdu.specs.Tables.{body_slots}
 use Rattle.pdu.specs.Forms.{bytes_of}
 use Rattle.station.specs.Units.{fresh, made, place_of}
 use Rattle.station.specs.Hearing.{enter, renew, heard_transmitter, other_id, signal_rules as station_rules, labelled, word_saying, message_of, after_j00}
-use Rattle.station.specs.Hearing.{after_timing, after_ppli, heard_message, heard_signal, step, heard}
+use Rattle.station.specs.Hearing.{after_ppli, heard_message, heard_signal, step, heard}
 use Rattle.station.specs.Clock.{at_time, clocked}
 use Rattle.station.specs.Example.{ExampleRuns}
 
@@ -20,7 +20,7 @@ unfolding body_slots bytes_of word_at wrong_version wrong_sync access_rules slot
     wrong_type wrong_length
     wrong_fixed wrong_records wrong_status wrong_bits start_rules transmitter_layout signal_layout reading_rules refusal reading
     least word_of fresh made place_of enter
-    renew heard_transmitter other_id station_rules labelled word_saying message_of after_j00 after_timing after_ppli heard_message
+    renew heard_transmitter other_id station_rules labelled word_saying message_of after_j00 after_ppli heard_message
     heard_signal step heard at_time clocked
 runs = record {
   first_answers = refl;

@@ -2,6 +2,7 @@
 -- body is a part of the datagram and a number in a part is the number at its place in the whole.
 -- Assumes nothing.
 use Prim.Native.Nat.{ℕ, ◌/◌, ◌%◌}
+use Rattle.std.specs.Prelude.{Option, Some}
 use mathlib.Core.Path.{◌≡◌, ap, ◌∙◌}
 use mathlib.Core.List.{List}
 use native.Mathlib.Omega.{arith}
@@ -11,7 +12,7 @@ use Rattle.pdu.specs.Reading.{reading, body_of}
 use Rattle.pdu.specs.Fields.{HeaderFields}
 use Rattle.pdu.specs.declared.Header.{Header}
 use Rattle.pdu.specs.declared.Signal.{Signal}
-use Rattle.pdu.specs.declared.Word.TheVariants.{Here}
+use Rattle.pdu.specs.declared.Word.{Word}
 use Rattle.pdu.specs.declared.Reading.TheVariants.{Signal as a_signal}
 use Rattle.station.specs.Units.{key_of}
 use Rattle.station.specs.Claims.{KeyInBytes, FirstWordInBytes}
@@ -27,6 +28,10 @@ key_in_bytes d = record {
   of_signal = λ g (n, e). key-placed d g.header (signal-fields d g n e).header;
 }
 
+-- the word whose ten bytes are this number
+abbrev word : ℕ → Option Word
+word v = Some (record { format = v % 4; label = v / 4 % 32; sublabel = v / 128 % 8 })
+
 pub first_word_in_bytes : (d : List ℕ) (g : Signal) (n : ℕ) → reading d ≡ a_signal g n → FirstWordInBytes d n
 first_word_in_bytes d g n e =
     let (inside, body, long) = body_there d g n e in
@@ -34,6 +39,6 @@ first_word_in_bytes d g n e =
     record {
       here = λ h.
           let placed : num 10 6 (body_of d) ≡ num 10 58 d = ap (num 10 6) body ∙ num-part 10 6 n body_start d (omega arith) in
-          first.here (omega (arith, long)) ∙ ap (λ (v : ℕ). Here (v % 4) (v / 4 % 32) (v / 128 % 8)) placed;
+          first.here (omega (arith, long)) ∙ ap word placed;
       absent = λ h. first.absent (omega (arith, long));
     }

@@ -11,12 +11,13 @@ use mathlib.Core.Logic.{◌⊎◌, inl, inr, ⊎_elim}
 use lib.Dec.{eqb}
 use borrow.Author.Tests.{eq-eqb, ne_eqb, lt-ltb}
 use native.Mathlib.Omega.{arith}
+use Rattle.station.specs.Answers.{number}
 use Rattle.station.specs.Units.{net_of, exchanges_of, count_of, id_of, state_of, key_of, fresh, made, unit_at}
 use Rattle.station.specs.Plain.{Sized}
 use Rattle.station.specs.Hearing.{answering, signal_rules, after_j00, after_timing, heard_message, heard_signal, step, first_word, heard}
-use Rattle.station.specs.Runs.{Call, called, after}
-use Rattle.station.specs.Table.{Joined, Counted, Unchanged, unread, no_room_row, stranger, other_net, other_id_row, not_fine_row, not_in_row, passed}
-use Rattle.station.specs.Table.{uncounted, asked, back, Table, nothing, entered, again, joined, positioned, counted, ticked}
+use Rattle.station.specs.Runs.{Call, called, answered, after}
+use Rattle.station.specs.Table.{Joined, Counted, Unchanged, unread}
+use Rattle.station.specs.Table.{Table, nothing, entered, again, joined, positioned, counted, ticked}
 use Rattle.station.specs.Claims.{Joins, Answered42, Some, here, later, JoinsFine, Answered, Counts, Answered47, times, InNet, InRange}
 use Rattle.station.specs.declared.State.{State}
 use Rattle.station.specs.declared.State.TheVariants.{Waiting, Coarse, Fine}
@@ -84,16 +85,7 @@ Touches n = (n ≡ 42) ⊎ (n ≡ 47)
 untouched : {s : Station} {c : Call} {n : ℕ} → Unchanged s c n → Touches n → ⊥
 untouched (unread {d = d} n e) q =
     ⊎_elim (λ q. refused-not d n 42 e (omega arith) (omega arith) q) (λ q. refused-not d n 47 e (omega arith) (omega arith) q) q
-untouched (no_room_row t e x y) q = ⊎_elim (λ q. omega arith) (λ q. omega arith) q
-untouched (stranger g e x) q = ⊎_elim (λ q. omega arith) (λ q. omega arith) q
-untouched (other_net g i e x y) q = ⊎_elim (λ q. omega arith) (λ q. omega arith) q
-untouched (other_id_row g i e x y z) q = ⊎_elim (λ q. omega arith) (λ q. omega arith) q
-untouched (not_fine_row g i e x y z) q = ⊎_elim (λ q. omega arith) (λ q. omega arith) q
-untouched (not_in_row g i e x y z) q = ⊎_elim (λ q. omega arith) (λ q. omega arith) q
-untouched (passed g i e x y z u) q = ⊎_elim (λ q. omega arith) (λ q. omega arith) q
-untouched (uncounted g i e x y z u) q = ⊎_elim (λ q. omega arith) (λ q. omega arith) q
-untouched (asked g i e x y) q = ⊎_elim (λ q. omega arith) (λ q. omega arith) q
-untouched (back x) q = ⊎_elim (λ q. omega arith) (λ q. omega arith) q
+untouched row q = ⊎_elim (λ q. omega arith) (λ q. omega arith) q
 
 -- a call leaves the state and the count as they were, is a J0.0 that was taken, or is a timing reply that counts
 data Moved (s : Station) (c : Call) (n : ℕ) (s' : Station) : Type 0 where
@@ -101,7 +93,7 @@ data Moved (s : Station) (c : Call) (n : ℕ) (s' : Station) : Type 0 where
   moves : (j : Joins s c) → n ≡ 42 → Joined s (unit_at s j.place) s' → Moved s c n s'
   adds : (k : Counts s c) → n ≡ 47 → Counted s s' → Moved s c n s'
 
-moved : (s : Station) → Sized s → (c : Call) → Moved s c (called s c).answer (called s c).station
+moved : (s : Station) → Sized s → (c : Call) → Moved s c (answered s c) (called s c).station
 moved s sized c = go (only_by_rules s sized c)
   where
     neither : {n : ℕ} → (n ≡ 42 → ⊥) → (n ≡ 47 → ⊥) → Touches n → ⊥
@@ -122,7 +114,7 @@ moved s sized c = go (only_by_rules s sized c)
     go (ticked x y) = still (neither (λ q. omega arith) (λ q. omega arith)) y.standing
 
 pub answered_42 : (s : Station) → Sized s → (c : Call) → Answered42 s c
-answered_42 s sized c = (λ e. go (moved s sized c) e, λ j. ap (λ (h : Heard). h.answer) (joins_outcome s c j))
+answered_42 s sized c = (λ e. go (moved s sized c) e, λ j. ap (λ (h : Heard). number h.answer) (joins_outcome s c j))
   where
     go : {n : ℕ} {s' : Station} → Moved s c n s' → n ≡ 42 → Joins s c
     go (still none e) q = absurd (none (inl q))
@@ -130,7 +122,7 @@ answered_42 s sized c = (λ e. go (moved s sized c) e, λ j. ap (λ (h : Heard).
     go (adds k e w) q = absurd (omega arith)
 
 pub answered_47 : (s : Station) → Sized s → (c : Call) → Answered47 s c
-answered_47 s sized c = (λ e. go (moved s sized c) e, λ k. ap (λ (h : Heard). h.answer) (counts_outcome s c k))
+answered_47 s sized c = (λ e. go (moved s sized c) e, λ k. ap (λ (h : Heard). number h.answer) (counts_outcome s c k))
   where
     go : {n : ℕ} {s' : Station} → Moved s c n s' → n ≡ 47 → Counts s c
     go (still none e) q = absurd (none (inr q))
@@ -257,7 +249,7 @@ keeps_timed s sized c t = go (moved s sized c) (same_exchanges (settings_kept s 
     go (adds k n v) e = after-count v k.counting.state e
 
 -- one call adds one exactly where it is answered 47
-count-step : (s : Station) → Sized s → (c : Call) → Timed s → count_of (called s c).station ≡ cond (eqb (called s c).answer 47) 1 0 + count_of s
+count-step : (s : Station) → Sized s → (c : Call) → Timed s → count_of (called s c).station ≡ cond (eqb (answered s c) 47) 1 0 + count_of s
 count-step s sized c t = go (moved s sized c)
   where
     at : {u : Unit} {s' : Station} → Joined s u s' → Ways s u s' → count_of s' ≡ count_of s

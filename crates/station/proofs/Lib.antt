@@ -1,8 +1,8 @@
 -- Laws and theorems of the station that belong to no one function.
 pub mod ReaderLaws
+pub mod OwnNumber
 pub mod InBytes
 pub mod PlaceLaws
-pub mod PartLaws
 pub mod Table
 pub mod Changes
 pub mod Ways

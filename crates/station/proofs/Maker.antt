@@ -8,8 +8,9 @@ use lib.Dec.{ltb}
 use borrow.Author.Tests.{ltb-true, ltb-false}
 use native.Mathlib.Omega.{arith}
 use Rattle.pdu.specs.declared.Header.{Header}
+use Rattle.station.specs.Answers.{made_number}
 use Rattle.station.specs.Numbers.{last_level, last_net, fewest_exchanges, most_exchanges, shortest_limit, longest_limit}
-use Rattle.station.specs.Units.{fresh, settings_of, least_settings, made}
+use Rattle.station.specs.Units.{fresh, settings_of, least_settings, refusing, making, made}
 use Rattle.station.specs.Claims.{Fresh, MakerTable, refused, taken, MadeByRules, UsualByRules, TwoBytes, SameKey}
 use Rattle.station.specs.declared.Settings.{Settings}
 use Rattle.station.specs.declared.Made.{Made}
@@ -42,7 +43,7 @@ made_by_rules level net exchanges limit =
 
     -- what the maker gives, by whether the settings are refused
     gives : Bool → Made
-    gives b = cond b (record { station = fresh least_settings; answer = 37 }) (record { station = fresh given; answer = 0 })
+    gives b = cond b refusing (making given)
 
     wrong : Bool → Bool → Bool → Bool → Bool → Bool → Bool
     wrong a b c d e f = a || b || (c || d) || (e || f)
@@ -54,7 +55,7 @@ made_by_rules level net exchanges limit =
         → ltb most_exchanges exchanges ≡ d
         → ltb limit shortest_limit ≡ e
         → ltb longest_limit limit ≡ f
-        → MakerTable level net exchanges limit (gives (wrong a b c d e f)).answer (gives (wrong a b c d e f)).station
+        → MakerTable level net exchanges limit (made_number (gives (wrong a b c d e f)).answer) (gives (wrong a b c d e f)).station
     go true b c d e f p q r s t u = refused (inl (ltb-true _ _ p)) (is_fresh least_settings)
     go false true c d e f p q r s t u = refused (inr (inl (ltb-true _ _ q))) (is_fresh least_settings)
     go false false true d e f p q r s t u = refused (inr (inr (inl (ltb-true _ _ r)))) (is_fresh least_settings)

@@ -2,6 +2,7 @@
 -- Each test is opened once here, by cases on what it answers, so that the table and the theorems speak of places, keys and labels only.
 -- Assumes nothing.
 use Prim.Native.Nat.{ℕ}
+use Rattle.std.specs.Prelude.{Option, Some, None}
 use mathlib.Core.Path.{◌≡◌, refl, sym, ap, ap₂, ◌∙◌}
 use mathlib.Core.Bool.{Bool, true, false, cond, not, ◌&&◌, ◌||◌, true≢false}
 use mathlib.Core.Logic.{◌⊎◌, inl, inr}
@@ -13,7 +14,6 @@ use Rattle.occupancy.specs.Places.{places, held, free_place}
 use Rattle.occupancy.proofs.LeastLaws.{least_is, least_below, least_here}
 use Rattle.occupancy.proofs.WordLaws.{lowest_is_free, below_is_held}
 use Rattle.pdu.specs.declared.Word.{Word}
-use Rattle.pdu.specs.declared.Word.TheVariants.{Absent, Here}
 use Rattle.station.specs.Numbers.{any_id}
 use Rattle.station.specs.Units.{unit_at, holds, place_of, known}
 use Rattle.station.specs.Plain.{Sender, Stranger, LowestFree, Full, Agree, Clash, IsJ00, IsPpli, IsOther}
@@ -128,55 +128,63 @@ module _ (own sender : ℕ) where
 
 -- ---- what a first word says
 
+-- a word by its three numbers
+said_by : (w : Word) (format label sublabel : ℕ)
+    → w.format ≡ format
+    → w.label ≡ label
+    → w.sublabel ≡ sublabel
+    → Some w ≡ Some (record { format = format; label = label; sublabel = sublabel })
+said_by w format label sublabel f l s = λ i. Some (record { format = f i; label = l i; sublabel = s i })
+
 module _ (type : ℕ) where
-  word_j00 : (w : Word) → word_saying type w ≡ NetEntry → IsJ00 type w
+  word_j00 : (w : Option Word) → word_saying type w ≡ NetEntry → IsJ00 type w
   unfolding word_saying labelled
-  word_j00 Absent e = absurd (let z : ◌≡◌ {A = ℕ} 0 1 = cc in omega arith)
-  word_j00 (Here format label sublabel) e =
-      go (eqb type 0) (eqb format 0) (eqb label 0) (eqb sublabel 0) refl refl refl refl e
+  word_j00 None e = cc
+  word_j00 (Some w) e =
+      go (eqb type 0) (eqb w.format 0) (eqb w.label 0) (eqb w.sublabel 0) refl refl refl refl e
     where
       more : (b : Bool) → cond b Ppli Other ≡ NetEntry → ⊥
-      more true f = let z : ◌≡◌ {A = ℕ} 0 1 = cc in omega arith
-      more false f = let z : ◌≡◌ {A = ℕ} 0 1 = cc in omega arith
+      more true f = cc
+      more false f = cc
 
-      go : (a b c d : Bool) → eqb type 0 ≡ a → eqb format 0 ≡ b → eqb label 0 ≡ c → eqb sublabel 0 ≡ d
-          → cond (a && b) (cond (c && d) NetEntry (cond (eqb label 2) Ppli Other)) Other ≡ NetEntry
-          → IsJ00 type (Here format label sublabel)
-      go true true true true x y z u f = (eqb-true _ _ x, λ i. Here (eqb-true format 0 y i) (eqb-true label 0 z i) (eqb-true sublabel 0 u i))
-      go true true true false x y z u f = absurd (more (eqb label 2) f)
-      go true true false d x y z u f = absurd (more (eqb label 2) f)
-      go true false c d x y z u f = absurd (let q : ◌≡◌ {A = ℕ} 0 1 = cc in omega arith)
-      go false b c d x y z u f = absurd (let q : ◌≡◌ {A = ℕ} 0 1 = cc in omega arith)
+      go : (a b c d : Bool) → eqb type 0 ≡ a → eqb w.format 0 ≡ b → eqb w.label 0 ≡ c → eqb w.sublabel 0 ≡ d
+          → cond (a && b) (cond (c && d) NetEntry (cond (eqb w.label 2) Ppli Other)) Other ≡ NetEntry
+          → IsJ00 type (Some w)
+      go true true true true x y z u f = (eqb-true _ _ x, said_by w 0 0 0 (eqb-true _ _ y) (eqb-true _ _ z) (eqb-true _ _ u))
+      go true true true false x y z u f = absurd (more (eqb w.label 2) f)
+      go true true false d x y z u f = absurd (more (eqb w.label 2) f)
+      go true false c d x y z u f = cc
+      go false b c d x y z u f = cc
 
-  word_ppli : (w : Word) → word_saying type w ≡ Ppli → IsPpli type w
+  word_ppli : (w : Option Word) → word_saying type w ≡ Ppli → IsPpli type w
   unfolding word_saying labelled
-  word_ppli Absent e = absurd (let z : ◌≡◌ {A = ℕ} 0 1 = cc in omega arith)
-  word_ppli (Here format label sublabel) e =
-      go (eqb type 0) (eqb format 0) (eqb label 0 && eqb sublabel 0) (eqb label 2) refl refl refl e
+  word_ppli None e = cc
+  word_ppli (Some w) e =
+      go (eqb type 0) (eqb w.format 0) (eqb w.label 0 && eqb w.sublabel 0) (eqb w.label 2) refl refl refl e
     where
-      go : (a b c d : Bool) → eqb type 0 ≡ a → eqb format 0 ≡ b → eqb label 2 ≡ d
+      go : (a b c d : Bool) → eqb type 0 ≡ a → eqb w.format 0 ≡ b → eqb w.label 2 ≡ d
           → cond (a && b) (cond c NetEntry (cond d Ppli Other)) Other ≡ Ppli
-          → IsPpli type (Here format label sublabel)
-      go true true true d x y z f = absurd (let q : ◌≡◌ {A = ℕ} 0 1 = cc in omega arith)
-      go true true false true x y z f = (eqb-true _ _ x, (sublabel, λ i. Here (eqb-true format 0 y i) (eqb-true label 2 z i) sublabel))
-      go true true false false x y z f = absurd (let q : ◌≡◌ {A = ℕ} 0 1 = cc in omega arith)
-      go true false c d x y z f = absurd (let q : ◌≡◌ {A = ℕ} 0 1 = cc in omega arith)
-      go false b c d x y z f = absurd (let q : ◌≡◌ {A = ℕ} 0 1 = cc in omega arith)
+          → IsPpli type (Some w)
+      go true true true d x y z f = cc
+      go true true false true x y z f = (eqb-true _ _ x, (w.sublabel, said_by w 0 2 w.sublabel (eqb-true _ _ y) (eqb-true _ _ z) refl))
+      go true true false false x y z f = cc
+      go true false c d x y z f = cc
+      go false b c d x y z f = cc
 
   -- a word says nothing of round-trip timing
-  no-timing : (w : Word) → ((word_saying type w ≡ Interrogation) ⊎ (word_saying type w ≡ TimingReply)) → ⊥
+  no-timing : (w : Option Word) → ((word_saying type w ≡ Interrogation) ⊎ (word_saying type w ≡ TimingReply)) → ⊥
   unfolding word_saying labelled
-  no-timing Absent (inl e) = let z : ◌≡◌ {A = ℕ} 0 1 = cc in omega arith
-  no-timing Absent (inr e) = let z : ◌≡◌ {A = ℕ} 0 1 = cc in omega arith
-  no-timing (Here format label sublabel) e = go (eqb type 0 && eqb format 0) (eqb label 0 && eqb sublabel 0) (eqb label 2) e
+  no-timing None (inl e) = cc
+  no-timing None (inr e) = cc
+  no-timing (Some w) e = go (eqb type 0 && eqb w.format 0) (eqb w.label 0 && eqb w.sublabel 0) (eqb w.label 2) e
     where
       none : (m : Message) → (m ≡ NetEntry) ⊎ ((m ≡ Ppli) ⊎ (m ≡ Other)) → (m ≡ Interrogation) ⊎ (m ≡ TimingReply) → ⊥
-      none m (inl f) (inl e) = let z : ◌≡◌ {A = ℕ} 0 1 = cc in omega arith
-      none m (inl f) (inr e) = let z : ◌≡◌ {A = ℕ} 0 1 = cc in omega arith
-      none m (inr (inl f)) (inl e) = let z : ◌≡◌ {A = ℕ} 0 1 = cc in omega arith
-      none m (inr (inl f)) (inr e) = let z : ◌≡◌ {A = ℕ} 0 1 = cc in omega arith
-      none m (inr (inr f)) (inl e) = let z : ◌≡◌ {A = ℕ} 0 1 = cc in omega arith
-      none m (inr (inr f)) (inr e) = let z : ◌≡◌ {A = ℕ} 0 1 = cc in omega arith
+      none m (inl f) (inl e) = cc
+      none m (inl f) (inr e) = cc
+      none m (inr (inl f)) (inl e) = cc
+      none m (inr (inl f)) (inr e) = cc
+      none m (inr (inr f)) (inl e) = cc
+      none m (inr (inr f)) (inr e) = cc
 
       go : (a b c : Bool)
           → ((cond a (cond b NetEntry (cond c Ppli Other)) Other ≡ Interrogation) ⊎ (cond a (cond b NetEntry (cond c Ppli Other)) Other ≡ TimingReply))
@@ -189,13 +197,13 @@ module _ (type : ℕ) where
 -- ---- what a Signal says
 
 -- by its type, and else by its first word
-data Said (type : ℕ) (w : Word) (m : Message) : Type 0 where
+data Said (type : ℕ) (w : Option Word) (m : Message) : Type 0 where
   by_ask : type ≡ 1 → m ≡ Interrogation → Said type w m
   by_reply : type ≡ 2 → m ≡ TimingReply → Said type w m
   by_word : word_saying type w ≡ m → Said type w m
 
 module _ (type : ℕ) where
-  said : (w : Word) (m : Message) → message_of type w ≡ m → Said type w m
+  said : (w : Option Word) (m : Message) → message_of type w ≡ m → Said type w m
   unfolding message_of
   said w m e = go (eqb type 1) (eqb type 2) refl refl e
     where
@@ -204,60 +212,60 @@ module _ (type : ℕ) where
       go false true x y e = by_reply (eqb-true _ _ y) (sym e)
       go false false x y e = by_word e
 
-  pub says_j00 : (w : Word) → IsJ00 type w → message_of type w ≡ NetEntry
+  pub says_j00 : (w : Option Word) → IsJ00 type w → message_of type w ≡ NetEntry
   unfolding message_of word_saying labelled
   says_j00 w (t, e) = ap₂ message_of t e
 
-  pub says_ppli : (w : Word) → IsPpli type w → message_of type w ≡ Ppli
+  pub says_ppli : (w : Option Word) → IsPpli type w → message_of type w ≡ Ppli
   unfolding message_of word_saying labelled
   says_ppli w (t, (sublabel, e)) = ap₂ message_of t e
 
-  pub says_ask : (w : Word) → type ≡ 1 → message_of type w ≡ Interrogation
+  pub says_ask : (w : Option Word) → type ≡ 1 → message_of type w ≡ Interrogation
   unfolding message_of
   says_ask w t = ap (λ (k : ℕ). message_of k w) t
 
-  pub says_reply : (w : Word) → type ≡ 2 → message_of type w ≡ TimingReply
+  pub says_reply : (w : Option Word) → type ≡ 2 → message_of type w ≡ TimingReply
   unfolding message_of
   says_reply w t = ap (λ (k : ℕ). message_of k w) t
 
-  pub j00_said : (w : Word) → message_of type w ≡ NetEntry → IsJ00 type w
+  pub j00_said : (w : Option Word) → message_of type w ≡ NetEntry → IsJ00 type w
   j00_said w e = go (said w NetEntry e)
     where
       go : Said type w NetEntry → IsJ00 type w
-      go (by_ask t f) = absurd (let z : ◌≡◌ {A = ℕ} 0 1 = cc in omega arith)
-      go (by_reply t f) = absurd (let z : ◌≡◌ {A = ℕ} 0 1 = cc in omega arith)
+      go (by_ask t f) = cc
+      go (by_reply t f) = cc
       go (by_word f) = word_j00 type w f
 
-  pub ppli_said : (w : Word) → message_of type w ≡ Ppli → IsPpli type w
+  pub ppli_said : (w : Option Word) → message_of type w ≡ Ppli → IsPpli type w
   ppli_said w e = go (said w Ppli e)
     where
       go : Said type w Ppli → IsPpli type w
-      go (by_ask t f) = absurd (let z : ◌≡◌ {A = ℕ} 0 1 = cc in omega arith)
-      go (by_reply t f) = absurd (let z : ◌≡◌ {A = ℕ} 0 1 = cc in omega arith)
+      go (by_ask t f) = cc
+      go (by_reply t f) = cc
       go (by_word f) = word_ppli type w f
 
-  pub ask_said : (w : Word) → message_of type w ≡ Interrogation → type ≡ 1
+  pub ask_said : (w : Option Word) → message_of type w ≡ Interrogation → type ≡ 1
   ask_said w e = go (said w Interrogation e)
     where
       go : Said type w Interrogation → type ≡ 1
       go (by_ask t f) = t
-      go (by_reply t f) = absurd (let z : ◌≡◌ {A = ℕ} 0 1 = cc in omega arith)
+      go (by_reply t f) = cc
       go (by_word f) = absurd (no-timing type w (inl f))
 
-  pub reply_said : (w : Word) → message_of type w ≡ TimingReply → type ≡ 2
+  pub reply_said : (w : Option Word) → message_of type w ≡ TimingReply → type ≡ 2
   reply_said w e = go (said w TimingReply e)
     where
       go : Said type w TimingReply → type ≡ 2
-      go (by_ask t f) = absurd (let z : ◌≡◌ {A = ℕ} 0 1 = cc in omega arith)
+      go (by_ask t f) = cc
       go (by_reply t f) = t
       go (by_word f) = absurd (no-timing type w (inr f))
 
-  pub other_said : (w : Word) → message_of type w ≡ Other → IsOther type w
+  pub other_said : (w : Option Word) → message_of type w ≡ Other → IsOther type w
   other_said w e = (
-    λ j. let f : NetEntry ≡ Other = sym (says_j00 w j) ∙ e in let z : ◌≡◌ {A = ℕ} 0 1 = cc in omega arith,
-    λ p. let f : Ppli ≡ Other = sym (says_ppli w p) ∙ e in let z : ◌≡◌ {A = ℕ} 0 1 = cc in omega arith,
-    λ t. let f : Interrogation ≡ Other = sym (says_ask w t) ∙ e in let z : ◌≡◌ {A = ℕ} 0 1 = cc in omega arith,
-    λ t. let f : TimingReply ≡ Other = sym (says_reply w t) ∙ e in let z : ◌≡◌ {A = ℕ} 0 1 = cc in omega arith,
+    λ j. let f : NetEntry ≡ Other = sym (says_j00 w j) ∙ e in cc,
+    λ p. let f : Ppli ≡ Other = sym (says_ppli w p) ∙ e in cc,
+    λ t. let f : Interrogation ≡ Other = sym (says_ask w t) ∙ e in cc,
+    λ t. let f : TimingReply ≡ Other = sym (says_reply w t) ∙ e in cc,
   )
 
 -- ---- the station's state

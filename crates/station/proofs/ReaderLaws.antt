@@ -2,9 +2,10 @@
 -- The law proved here: reading gives no number from 16 to 49, so a refusal is never taken for an answer of the station's.
 -- Assumes nothing.
 use Prim.Native.Nat.{ℕ, ◌≤◌}
-use mathlib.Core.Path.{◌≡◌}
+use mathlib.Core.Path.{◌≡◌, ◌∙◌}
 use mathlib.Core.List.{List}
-use native.Mathlib.Omega.{arith}
+use Rattle.pdu.specs.Refusals.{number}
+use Rattle.pdu.specs.declared.refusals.Refusal.{Refusal}
 use Rattle.pdu.specs.Reading.{reading}
 use Rattle.pdu.specs.declared.Reading.TheVariants.{Refused}
 use Rattle.pdu.proofs.Answers.{refuses_as}
@@ -17,5 +18,5 @@ pub use Rattle.pdu.proofs.FieldLaws.{transmitter-fields, signal-fields, word_par
 pub use Rattle.pdu.proofs.ReadLaws.{body_there}
 
 -- a datagram that reading refuses is refused with no number from 16 to 49
-pub refused-not : (d : List ℕ) (n k : ℕ) → reading d ≡ Refused n → 16 ≤ k → k ≤ 49 → n ≡ k → ⊥
-refused-not d n k e low high q = refusal_apart d n (omega arith) (omega arith) ((refuses_as d n).0 e).0
+pub refused-not : (d : List ℕ) (refusal : Refusal) (k : ℕ) → reading d ≡ Refused refusal → 16 ≤ k → k ≤ 49 → number refusal ≡ k → ⊥
+refused-not d refusal k e low high q = refusal_apart d k low high (((refuses_as d refusal).0 e).0 ∙ q)

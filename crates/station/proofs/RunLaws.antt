@@ -11,7 +11,7 @@ use lib.Dec.{ltb}
 use borrow.Author.Tests.{ltb-false}
 use native.Mathlib.Omega.{arith}
 use Rattle.station.specs.Numbers.{last_level, last_net, fewest_exchanges, most_exchanges, shortest_limit, longest_limit}
-use Rattle.station.specs.Units.{fresh, wrong_settings, least_settings, made}
+use Rattle.station.specs.Units.{fresh, wrong_settings, least_settings, refusing, making, made}
 use Rattle.station.specs.Plain.{Sized}
 use Rattle.station.specs.Runs.{Call, called, after}
 use Rattle.station.specs.Table.{Table, nothing, entered, again, joined, positioned, counted, ticked}
@@ -71,7 +71,7 @@ of_made Q f given = go (wrong_settings given) refl
   where
     go : (b : Bool)
         → wrong_settings given ≡ b
-        → Q (cond {A = Made} b (record { station = fresh least_settings; answer = 37 }) (record { station = fresh given; answer = 0 })).station
+        → Q (cond {A = Made} b refusing (making given)).station
     go true e = f least_settings least_in_range
     go false e = f given (in_range given e)
 

@@ -40,7 +40,7 @@ fresh-sound settings fit =
       word = pow_pos places;
       distinct = λ i j h k e. absurd (none i h);
       units = λ i h. absurd (none i h);
-      counting = λ e. absurd (let z : ◌≡◌ {A = ℕ} 0 1 = cc in omega arith);
+      counting = λ e. cc;
     }
 
 -- ---- one call
@@ -184,7 +184,7 @@ keeps s sized c sound = go (only_by_rules s sized c)
             omega (arith, j.count_zero b.0 b.1 w, ap (λ (g : Settings). g.exchanges) j.settings, sound.settings.one_exchange)
         go (as_it_was b w v) =
             omega (arith, j.count_kept (λ o p q. w q), ap (λ (g : Settings). g.exchanges) j.settings, sound.counting (sym v ∙ coarse))
-        go (to_fine b v) = absurd (let z : ◌≡◌ {A = ℕ} 0 1 = cc in omega arith)
+        go (to_fine b v) = cc
 
     -- a reply that counts leaves it Coarse only below the number of exchanges
     counted_counting : {s' : Station} → Counted s s' → Counting s'.own
@@ -194,7 +194,7 @@ keeps s sized c sound = go (only_by_rules s sized c)
         go (inl h) = omega (arith, w.one_more (omega arith), ap (λ (g : Settings). g.exchanges) w.settings)
         go (inr h) =
             let fine = w.fine h in
-            absurd (let z : ◌≡◌ {A = ℕ} 0 1 = cc in omega arith)
+            cc
 
     go : {c : Call} {n : ℕ} {s' : Station} → Table s c n s' → Sound s'
     go (nothing row) = sound

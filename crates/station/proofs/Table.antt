@@ -20,6 +20,7 @@ use Rattle.pdu.specs.declared.Transmitter.{Transmitter}
 use Rattle.pdu.specs.declared.Signal.{Signal}
 use Rattle.pdu.specs.declared.Reading.{Reading}
 use Rattle.pdu.specs.declared.Reading.TheVariants.{Refused, Transmitter as a_transmitter, Signal as a_signal}
+use Rattle.station.specs.Answers.{number}
 use Rattle.station.specs.Units.{level_of, net_of, exchanges_of, count_of, id_of, state_of, clock_of, key_of, blank, unit_at, place_of, known, with_unit}
 use Rattle.station.specs.Units.{limit_of, with_new}
 use Rattle.station.specs.Plain.{Sized, LowestFree}
@@ -45,7 +46,7 @@ use Rattle.station.proofs.PlaceLaws.{ask_said, reply_said, other_said, is_fine_l
 
 -- an outcome that is in the table
 abbrev Tabled : Station → Call → Heard → Type 0
-Tabled s c h = Table s c h.answer h.station
+Tabled s c h = Table s c (number h.answer) h.station
 
 -- ---- following the tests
 
@@ -218,7 +219,6 @@ timed_fine exchanges count h = go (ltb count exchanges) refl
     go false e = refl
 
 pub counted-row : (s : Station) → Counted s (after_timing s)
-unfolding after_timing
 counted-row s =
     let e = exchanges_of s in
     let n = count_of s in

@@ -4,7 +4,6 @@
 use Prim.Native.Nat.{ℕ}
 use mathlib.Core.Path.{◌≡◌, refl}
 use mathlib.Core.Logic.{◌⊎◌, inl, inr, ⊎_elim}
-use native.Mathlib.Omega.{arith}
 use Rattle.station.specs.Units.{level_of, state_of}
 use Rattle.station.specs.Table.{Joined}
 use Rattle.station.specs.declared.State.{State}
@@ -23,17 +22,17 @@ four own sender =
 
 pub waiting? : (st : State) → (st ≡ Waiting) ⊎ (st ≡ Waiting → ⊥)
 waiting? Waiting = inl refl
-waiting? Coarse = inr (λ e. let z : ◌≡◌ {A = ℕ} 0 1 = cc in omega arith)
-waiting? Fine = inr (λ e. let z : ◌≡◌ {A = ℕ} 0 1 = cc in omega arith)
+waiting? Coarse = inr (λ e. cc)
+waiting? Fine = inr (λ e. cc)
 
 pub coarse≢waiting : {st : State} → st ≡ Coarse → st ≡ Waiting → ⊥
-coarse≢waiting p q = let z : ◌≡◌ {A = ℕ} 0 1 = cc in omega arith
+coarse≢waiting p q = cc
 
 pub fine≢waiting : {st : State} → st ≡ Fine → st ≡ Waiting → ⊥
-fine≢waiting p q = let z : ◌≡◌ {A = ℕ} 0 1 = cc in omega arith
+fine≢waiting p q = cc
 
 pub fine≢coarse : {st : State} → st ≡ Fine → st ≡ Coarse → ⊥
-fine≢coarse p q = let z : ◌≡◌ {A = ℕ} 0 1 = cc in omega arith
+fine≢coarse p q = cc
 
 -- the three ways of the state: Waiting becomes Coarse, other states stay, and Fine
 pub data Ways (s : Station) (u : Unit) (s' : Station) : Type 0 where

@@ -1,22 +1,21 @@
 -- What the station's theorems claim. Each is proved under its own name in small letters: OnlyByRules by only_by_rules, and so on.
-use Rattle.std.specs.Prelude.{ℕ, ◌+◌, ◌-◌, ◌/◌, ◌%◌, ◌<◌, ◌≤◌, ◌≡◌, true, cond, List, [], ◌∷◌, eqb, ◌⊎◌, ◌↔◌, ◌≢◌}
+use Rattle.std.specs.Prelude.{ℕ, ◌+◌, ◌-◌, ◌/◌, ◌%◌, ◌<◌, ◌≤◌, ◌≡◌, true, cond, Some as some, None, List, [], ◌∷◌, eqb, ◌⊎◌, ◌↔◌, ◌≢◌}
 use Rattle.wire.specs.Bytes.{num}
 use Rattle.occupancy.specs.Places.{held}
+use Rattle.pdu.specs.declared.refusals.Refusal.{Refusal}
 use Rattle.pdu.specs.Reading.{reading}
 use Rattle.pdu.specs.declared.Header.{Header}
 use Rattle.pdu.specs.declared.Transmitter.{Transmitter}
 use Rattle.pdu.specs.declared.Signal.{Signal}
-use Rattle.pdu.specs.declared.Word.TheVariants.{Absent, Here}
 use Rattle.pdu.specs.declared.Reading.TheVariants.{Refused, Transmitter as a_transmitter}
+use Rattle.station.specs.Answers.{Unread, made_number}
 use Rattle.station.specs.Units.{level_of, net_of, exchanges_of, limit_of, count_of, id_of, state_of, clock_of, settings_of, usual_settings, made}
 use Rattle.station.specs.Units.{key_of, state_number, unit_at, units_held, seen_of, place_at}
 use Rattle.station.specs.Plain.{Sized, NoneBeyond, HeldAt, one_at, Sender, Stranger, Clash}
-use Rattle.station.specs.Hearing.{answering, first_word, heard}
-use Rattle.station.specs.Runs.{Call, datagram, called, after}
+use Rattle.station.specs.Hearing.{leaving, first_word, heard}
+use Rattle.station.specs.Runs.{Call, datagram, called, answered, after}
 use Rattle.station.specs.Table.{IsSignal, Passed, SaysJ00, SaysReply, Counting, Table}
 use Rattle.station.specs.declared.State.TheVariants.{Waiting, Coarse, Fine}
-use Rattle.station.specs.declared.Seen.TheVariants.{Unknown, Known}
-use Rattle.station.specs.declared.Place.TheVariants.{Free, Held}
 use Rattle.station.specs.declared.Settings.{Settings}
 use Rattle.station.specs.declared.Unit.{Unit}
 use Rattle.station.specs.declared.Station.{Station}
@@ -56,13 +55,13 @@ pub data MakerTable (level net exchanges limit : ℕ) : ℕ → Station → Type
 abbrev pub MadeByRules : ℕ → ℕ → ℕ → ℕ → Type 0
 MadeByRules level net exchanges limit =
     let m = made (settings_of level net exchanges limit) in
-    MakerTable level net exchanges limit m.answer m.station
+    MakerTable level net exchanges limit (made_number m.answer) m.station
 
 -- The maker without one: it gives the limit 96.
 abbrev pub UsualByRules : ℕ → ℕ → ℕ → Type 0
 UsualByRules level net exchanges =
     let m = made (usual_settings level net exchanges) in
-    MakerTable level net exchanges 96 m.answer m.station
+    MakerTable level net exchanges 96 (made_number m.answer) m.station
 
 -- The four numbers of a key have two bytes each: so it is of every header that a program can hold.
 pub record TwoBytes (h : Header) : Type 0 where
@@ -94,18 +93,18 @@ pub record KeyInBytes (d : List ℕ) : Type 0 where
 -- The first word of a Signal with a body of n bytes stands in bytes 58 to 67 of its datagram, behind 52 bytes and the body's 6 header bytes:
 -- bits 0 and 1 are its format, 2 to 6 its label, 7 to 9 its sublabel. There is none where the body has fewer than 16 bytes.
 pub record FirstWordInBytes (d : List ℕ) (n : ℕ) : Type 0 where
-  pub here : 16 ≤ n → first_word d ≡ Here (num 10 58 d % 4) (num 10 58 d / 4 % 32) (num 10 58 d / 128 % 8)
-  pub absent : n < 16 → first_word d ≡ Absent
+  pub here : 16 ≤ n → first_word d ≡ some (record { format = num 10 58 d % 4; label = num 10 58 d / 4 % 32; sublabel = num 10 58 d / 128 % 8 })
+  pub absent : n < 16 → first_word d ≡ None
 
 -- ---- what others see of a station
 
 -- A key is shown with its unit's entry exactly where it is known, and a place with its entry exactly where it is held; the number of units is
 -- that of the held places; each state has its number.
 pub record Shown (s : Station) : Type 0 where
-  pub key_known : (key i : ℕ) → Sender s key i → seen_of s key ≡ Known (unit_at s i).inside (unit_at s i).last
-  pub key_unknown : (key : ℕ) → Stranger s key → seen_of s key ≡ Unknown
-  pub place_held : (i : ℕ) → HeldAt s i → place_at s i ≡ Held (unit_at s i)
-  pub place_free : (i : ℕ) → (HeldAt s i → ⊥) → place_at s i ≡ Free
+  pub key_known : (key i : ℕ) → Sender s key i → seen_of s key ≡ some (record { inside = (unit_at s i).inside; last = (unit_at s i).last })
+  pub key_unknown : (key : ℕ) → Stranger s key → seen_of s key ≡ None
+  pub place_held : (i : ℕ) → HeldAt s i → place_at s i ≡ some (unit_at s i)
+  pub place_free : (i : ℕ) → (HeldAt s i → ⊥) → place_at s i ≡ None
   pub number :
       units_held s
       ≡ one_at s 0 + one_at s 1 + one_at s 2 + one_at s 3 + one_at s 4 + one_at s 5 + one_at s 6 + one_at s 7
@@ -116,11 +115,11 @@ pub record Shown (s : Station) : Type 0 where
 
 -- Whatever the call, what it answers and leaves is a row of the table.
 abbrev pub OnlyByRules : Station → Call → Type 0
-OnlyByRules s c = Table s c (called s c).answer (called s c).station
+OnlyByRules s c = Table s c (answered s c) (called s c).station
 
 -- A datagram that the reader refuses is answered with the reader's number, and leaves the whole station as it was.
 abbrev pub UnreadChangesNothing : Station → List ℕ → Type 0
-UnreadChangesNothing s d = (n : ℕ) → reading d ≡ Refused n → heard s d ≡ answering n s
+UnreadChangesNothing s d = (refusal : Refusal) → reading d ≡ Refused refusal → heard s d ≡ leaving (Unread refusal) s
 
 -- An answer that is none of the six by which a station changes: the reader's numbers, 30 to 36 and 44 are left.
 pub record Quiet (n : ℕ) : Type 0 where
@@ -133,7 +132,7 @@ pub record Quiet (n : ℕ) : Type 0 where
 
 -- Every such answer leaves the whole station as it was.
 abbrev pub RefusalsChangeNothing : Station → Call → Type 0
-RefusalsChangeNothing s c = Quiet (called s c).answer → (called s c).station ≡ s
+RefusalsChangeNothing s c = Quiet (answered s c) → (called s c).station ≡ s
 
 -- Why a Signal's sender is an outsider: its key is unknown, it is on another net, its ID differs from the station's and neither is zero, or it
 -- is not fine.
@@ -177,7 +176,7 @@ pub record Joins (s : Station) (c : Call) : Type 0 where
 
 -- The station answers 42 exactly to such a J0.0.
 abbrev pub Answered42 : Station → Call → Type 0
-Answered42 s c = ((called s c).answer ≡ 42) ↔ Joins s c
+Answered42 s c = (answered s c ≡ 42) ↔ Joins s c
 
 -- ---- a list of calls
 
@@ -193,7 +192,7 @@ pub record JoinsFine (s : Station) (c : Call) : Type 0 where
 
 -- The station answers the call with this number.
 abbrev pub Answered : ℕ → Station → Call → Type 0
-Answered n s c = (called s c).answer ≡ n
+Answered n s c = answered s c ≡ n
 
 -- The call is a timing reply that counts: a Signal of type 2 whose sender stands in a held place and is fine, on the station's net, its ID the
 -- station's or one of the two zero, while the station is Coarse and both levels are 4.
@@ -210,12 +209,12 @@ pub record Counts (s : Station) (c : Call) : Type 0 where
 
 -- The station answers 47 exactly to such a reply.
 abbrev pub Answered47 : Station → Call → Type 0
-Answered47 s c = ((called s c).answer ≡ 47) ↔ Counts s c
+Answered47 s c = (answered s c ≡ 47) ↔ Counts s c
 
 -- How many calls of the list the station answers with this number.
 abbrev pub times : ℕ → Station → List Call → ℕ
 times n s [] = 0
-times n s (c ∷ cs) = cond (eqb (called s c).answer n) 1 0 + times n (called s c).station cs
+times n s (c ∷ cs) = cond (eqb (answered s c) n) 1 0 + times n (called s c).station cs
 
 -- The station is Coarse or Fine exactly if some call was a J0.0 that it took, which is exactly if some call was answered 42. It is Fine
 -- exactly if some such J0.0 met not both levels at 4, or if as many calls counted as the station has exchanges: all of them since it became

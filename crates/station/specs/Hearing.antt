@@ -1,5 +1,5 @@
 -- What a datagram does to a station, and what the call answers. Answers are document 01's numbers: the reader's own, 30 to 35, 40 to 44, and 47.
-use Rattle.std.specs.Prelude.{ℕ, ◌+◌, Bool, true, false, cond, not, ◌&&◌, ◌||◌, List, [], ◌∷◌, eqb, ltb}
+use Rattle.std.specs.Prelude.{ℕ, ◌+◌, Bool, true, false, cond, not, ◌&&◌, ◌||◌, Option, Some, None, List, [], ◌∷◌, eqb, ltb}
 use Rattle.wire.specs.First.{Refusal, ◌given_when◌, first}
 use Rattle.occupancy.specs.Places.{places, free_place}
 use Rattle.pdu.specs.Reading.{reading, body_of}
@@ -7,12 +7,12 @@ use Rattle.pdu.specs.Words.{word_at}
 use Rattle.pdu.specs.declared.Transmitter.{Transmitter}
 use Rattle.pdu.specs.declared.Signal.{Signal}
 use Rattle.pdu.specs.declared.Word.{Word}
-use Rattle.pdu.specs.declared.Word.TheVariants.{Absent, Here}
 use Rattle.pdu.specs.declared.Reading.{Reading}
 use Rattle.pdu.specs.declared.Reading.TheVariants.{Refused, Transmitter as a_transmitter, Signal as a_signal}
-use Rattle.pdu.specs.Numbers.{coarse, fine, interrogation, timing_reply}
+use Rattle.pdu.specs.Numbers.{fine, interrogation, timing_reply}
 use Rattle.station.specs.Numbers.{any_id, coarse_level, ppli_label}
-use Rattle.station.specs.Units.{state_number, net_of, id_of, state_of, clock_of, with_standing, key_of, unit_at, place_of, known, with_own, with_unit, with_new}
+use Rattle.station.specs.Answers.{Answer, Unread, named}
+use Rattle.station.specs.Units.{net_of, id_of, state_of, clock_of, with_standing, key_of, unit_at, place_of, known, with_own, with_unit, with_new}
 use Rattle.station.specs.declared.State.{State}
 use Rattle.station.specs.declared.State.TheVariants.{Waiting, Coarse, Fine}
 use Rattle.station.specs.declared.Standing.{Standing}
@@ -24,8 +24,12 @@ use Rattle.station.specs.declared.Message.{Message}
 use Rattle.station.specs.declared.Message.TheVariants.{NetEntry, Ppli, Interrogation, TimingReply, Other}
 
 -- an answer, and the station that the call leaves
+abbrev pub leaving : Answer → Station → Heard
+leaving a s = record { station = s; answer = a }
+
+-- the same by the number of the answer
 abbrev pub answering : ℕ → Station → Heard
-answering n s = record { station = s; answer = n }
+answering n s = leaving (named n) s
 
 -- the first rule that applies gives its number and changes nothing; where none does, the outcome
 abbrev pub unless : Station → List Refusal → Heard → Heard
@@ -94,12 +98,12 @@ unfoldable pub labelled : ℕ → ℕ → Message
 labelled label sublabel = cond (eqb label 0 && eqb sublabel 0) NetEntry (cond (eqb label ppli_label) Ppli Other)
 
 -- what a first word says, "by the first word of type 0 if it is initial"
-unfoldable pub word_saying : ℕ → Word → Message
-word_saying type Absent = Other
-word_saying type (Here format label sublabel) = cond (eqb type 0 && eqb format 0) (labelled label sublabel) Other
+unfoldable pub word_saying : ℕ → Option Word → Message
+word_saying type None = Other
+word_saying type (Some w) = cond (eqb type 0 && eqb w.format 0) (labelled w.label w.sublabel) Other
 
 -- what a Signal says: round-trip timing by its type (02, R-1), all else by the first word; "all else, no words .. included"
-unfoldable pub message_of : ℕ → Word → Message
+unfoldable pub message_of : ℕ → Option Word → Message
 message_of type w = cond (eqb type interrogation) Interrogation (cond (eqb type timing_reply) TimingReply (word_saying type w))
 
 -- "If both levels are 4, Waiting becomes Coarse and other states stay; else the state becomes Fine"
@@ -154,7 +158,9 @@ is_fine Fine = true
 
 -- whether it is Coarse
 abbrev pub is_coarse : State → Bool
-is_coarse state = eqb (state_number state) coarse
+is_coarse Waiting = false
+is_coarse Coarse = true
+is_coarse Fine = false
 
 -- 02, R-1: "While it is Coarse and its level 4, each type 2 message .. from a fine sender of level 4 counts one"
 abbrev pub counts_for : Own → Unit → Bool
@@ -178,7 +184,7 @@ standing_timed own =
     }
 
 -- the station after it
-unfoldable pub after_timing : Station → Station
+abbrev pub after_timing : Station → Station
 after_timing s = with_own s (with_standing s.own (standing_timed s.own))
 
 -- 34: "unless the sender is fine"
@@ -199,7 +205,7 @@ heard_message s i Interrogation = answering 44 s
 heard_message s i Other = unless s (not_in s (unit_at s i) ∷ []) (answering 44 s)
 
 -- a Signal and the first word of its body: "31", "32", "33", "Then, by the first word"
-unfoldable pub heard_signal : Station → Signal → Word → Heard
+unfoldable pub heard_signal : Station → Signal → Option Word → Heard
 heard_signal s g w =
     unless s (signal_rules s g)
     (heard_message s (place_of s (key_of g.header)) (message_of g.network.message_type w))
@@ -207,13 +213,13 @@ heard_signal s g w =
 -- ---- any datagram
 
 -- what reading answered, and the first word of the body, make of a station: "the reader's number comes first and changes nothing"
-unfoldable pub step : Station → Reading → Word → Heard
-step s (Refused n) w = answering n s
+unfoldable pub step : Station → Reading → Option Word → Heard
+step s (Refused refusal) w = leaving (Unread refusal) s
 step s (a_transmitter t) w = heard_transmitter s t
 step s (a_signal g n) w = heard_signal s g w
 
 -- the first word of a datagram's body
-abbrev pub first_word : List ℕ → Word
+abbrev pub first_word : List ℕ → Option Word
 first_word d = word_at (body_of d) 0
 
 -- what a datagram makes of a station

@@ -1,9 +1,8 @@
 -- The station's terms in plain words and literal numbers: where a key stands, which place is free, which IDs agree, what a first word says.
 -- They share no test and no named number with the rules that compute; the theorems join the two.
-use Rattle.std.specs.Prelude.{ℕ, ◌^◌, ◌<◌, ◌≡◌, true, false, cond, ◌⊎◌, length}
+use Rattle.std.specs.Prelude.{ℕ, ◌^◌, ◌<◌, ◌≡◌, true, false, cond, ◌⊎◌, Option, Some, length}
 use Rattle.occupancy.specs.Places.{held}
 use Rattle.pdu.specs.declared.Word.{Word}
-use Rattle.pdu.specs.declared.Word.TheVariants.{Here}
 use Rattle.station.specs.Units.{unit_at}
 use Rattle.station.specs.declared.Station.{Station}
 
@@ -53,13 +52,13 @@ abbrev pub Clash : ℕ → ℕ → Type 0
 Clash own sender = (own ≡ sender → ⊥) × (own ≡ 0 → ⊥) × (sender ≡ 0 → ⊥)
 
 -- A type 0 body whose first word is J0.0: initial, label 0, sublabel 0.
-abbrev pub IsJ00 : ℕ → Word → Type 0
-IsJ00 type w = (type ≡ 0) × (w ≡ Here 0 0 0)
+abbrev pub IsJ00 : ℕ → Option Word → Type 0
+IsJ00 type w = (type ≡ 0) × (w ≡ Some (record { format = 0; label = 0; sublabel = 0 }))
 
 -- A type 0 body whose first word is a PPLI: initial, label 2, any sublabel.
-abbrev pub IsPpli : ℕ → Word → Type 0
-IsPpli type w = (type ≡ 0) × ((sublabel : ℕ) × (w ≡ Here 0 2 sublabel))
+abbrev pub IsPpli : ℕ → Option Word → Type 0
+IsPpli type w = (type ≡ 0) × ((sublabel : ℕ) × (w ≡ Some (record { format = 0; label = 2; sublabel = sublabel })))
 
 -- All else: no J0.0, no PPLI, and no round-trip timing, which is types 1 and 2.
-abbrev pub IsOther : ℕ → Word → Type 0
+abbrev pub IsOther : ℕ → Option Word → Type 0
 IsOther type w = (IsJ00 type w → ⊥) × (IsPpli type w → ⊥) × (type ≡ 1 → ⊥) × (type ≡ 2 → ⊥)

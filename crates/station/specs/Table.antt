@@ -2,6 +2,8 @@
 -- everything that changes. The rows speak of places, keys, nets, IDs, levels and seconds only.
 use Rattle.std.specs.Prelude.{ℕ, ◌+◌, ◌-◌, ◌<◌, ◌≤◌, ◌≡◌, true, false, List, ◌⊎◌, ◌↔◌, length}
 use Rattle.occupancy.specs.Places.{held}
+use Rattle.pdu.specs.Refusals.{number}
+use Rattle.pdu.specs.declared.refusals.Refusal.{Refusal}
 use Rattle.pdu.specs.Reading.{reading}
 use Rattle.pdu.specs.declared.Transmitter.{Transmitter}
 use Rattle.pdu.specs.declared.Signal.{Signal}
@@ -138,7 +140,7 @@ pub record Ticked (s : Station) (t : ℕ) (s' : Station) : Type 0 where
 -- The rows in which nothing changes: a station, a call, and the answer.
 pub data Unchanged (s : Station) : Call → ℕ → Type 0 where
   -- a datagram that the reader refuses: the reader's number
-  unread : {d : List ℕ} (n : ℕ) → reading d ≡ Refused n → Unchanged s (datagram d) n
+  unread : {d : List ℕ} (refusal : Refusal) → reading d ≡ Refused refusal → Unchanged s (datagram d) (number refusal)
   -- a Transmitter with an unknown key, and no place is free: 30
   no_room_row : {d : List ℕ} (t : Transmitter)
       → reading d ≡ a_transmitter t

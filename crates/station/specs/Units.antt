@@ -1,5 +1,5 @@
 -- What a station is: its own fields, its sixteen places, and what stands in them.
-use Rattle.std.specs.Prelude.{ℕ, ◌+◌, ◌*◌, Bool, false, cond, ◌&&◌, ◌||◌, get_or, set, replicate, eqb, ltb}
+use Rattle.std.specs.Prelude.{ℕ, ◌+◌, ◌*◌, Bool, false, cond, ◌&&◌, ◌||◌, Option, Some, None, Ok, Err, get_or, set, replicate, eqb, ltb}
 use Rattle.occupancy.specs.Places.{places, held, least, held_count, with_place}
 use Rattle.pdu.specs.Numbers.{coarse, fine}
 use Rattle.pdu.specs.declared.Header.{Header}
@@ -13,9 +13,6 @@ use Rattle.station.specs.declared.Unit.{Unit}
 use Rattle.station.specs.declared.Station.{Station}
 use Rattle.station.specs.declared.Made.{Made}
 use Rattle.station.specs.declared.Seen.{Seen}
-use Rattle.station.specs.declared.Seen.TheVariants.{Unknown, Known}
-use Rattle.station.specs.declared.Place.{Place}
-use Rattle.station.specs.declared.Place.TheVariants.{Free, Held}
 
 -- ---- the station's own fields
 
@@ -94,12 +91,15 @@ wrong_settings settings =
 abbrev pub least_settings : Settings
 least_settings = settings_of 0 0 1 usual_limit
 
--- what a maker answers: 0; or 37, with a station of the least settings
+-- what a maker gives: 37 with a station of the least settings, or the station asked for
+abbrev pub refusing : Made
+refusing = record { station = fresh least_settings; answer = Err (record {}) }
+
+abbrev pub making : Settings → Made
+making settings = record { station = fresh settings; answer = Ok tt }
+
 unfoldable pub made : Settings → Made
-made settings =
-    cond (wrong_settings settings)
-    (record { station = fresh least_settings; answer = 37 })
-    (record { station = fresh settings; answer = 0 })
+made settings = cond (wrong_settings settings) refusing (making settings)
 
 -- ---- places
 
@@ -142,9 +142,11 @@ abbrev pub units_held : Station → ℕ
 units_held s = held_count s.used
 
 -- what a station knows of a key: whether the unit is In, and when it was last heard
-unfoldable pub seen_of : Station → ℕ → Seen
-seen_of s key = cond (known s key) (Known (unit_at s (place_of s key)).inside (unit_at s (place_of s key)).last) Unknown
+unfoldable pub seen_of : Station → ℕ → Option Seen
+seen_of s key =
+    let u = unit_at s (place_of s key) in
+    cond (known s key) (Some (record { inside = u.inside; last = u.last })) None
 
 -- what place i holds
-unfoldable pub place_at : Station → ℕ → Place
-place_at s i = cond (ltb i places && held s.used i) (Held (unit_at s i)) Free
+unfoldable pub place_at : Station → ℕ → Option Unit
+place_at s i = cond (ltb i places && held s.used i) (Some (unit_at s i)) None

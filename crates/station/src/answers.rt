@@ -1,35 +1,65 @@
-// The numbers that the station's calls answer (document 01, "The numbers" and "The station").
+// What the station's calls answer, with document 01's number of each ("The numbers" and "The station").
+ghost use Rattle.std.specs.Prelude.{◌≡◌};
+ghost use Rattle.station.specs.Answers.{number};
 
-// Refused: nothing changes.
-pub(crate) const NO_ROOM: u8 = 30;
+use pdu::Refusal;
 
-pub(crate) const UNKNOWN_KEY: u8 = 31;
+// What a call on a station answers.
+#[derive(Clone, Copy, Debug, PartialEq, Eq)]
+pub enum Answer {
+    // Refused: nothing changes. The first is the reader's refusal.
+    Unread(Refusal),
+    NoRoom,
+    UnknownKey,
+    OtherNet,
+    OtherId,
+    NotFine,
+    NotIn,
+    ClockBack,
+    // Taken.
+    Entered,
+    Renewed,
+    Joined,
+    Positioned,
+    Passed,
+    TimePassed,
+    Counted,
+}
 
-pub(crate) const OTHER_NET: u8 = 32;
+impl Answer {
+    // Document 01's number of the answer.
+    pub fn number(self) -> u8
+        ensures { result ≡ number self }
+    {
+        match self {
+            Answer::Unread(refusal) => refusal.number(),
+            Answer::NoRoom => 30,
+            Answer::UnknownKey => 31,
+            Answer::OtherNet => 32,
+            Answer::OtherId => 33,
+            Answer::NotFine => 34,
+            Answer::NotIn => 35,
+            Answer::ClockBack => 36,
+            Answer::Entered => 40,
+            Answer::Renewed => 41,
+            Answer::Joined => 42,
+            Answer::Positioned => 43,
+            Answer::Passed => 44,
+            Answer::TimePassed => 46,
+            Answer::Counted => 47,
+        }
+    }
+}
 
-pub(crate) const OTHER_ID: u8 = 33;
+// A maker's refusal of settings out of range.
+#[derive(Clone, Copy, Debug, PartialEq, Eq)]
+pub struct BadSettings;
 
-pub(crate) const NOT_FINE: u8 = 34;
-
-pub(crate) const NOT_IN: u8 = 35;
-
-pub(crate) const CLOCK_BACK: u8 = 36;
-
-pub(crate) const BAD_SETTINGS: u8 = 37;
-
-// Taken.
-pub(crate) const MADE: u8 = 0;
-
-pub(crate) const ENTERED: u8 = 40;
-
-pub(crate) const RENEWED: u8 = 41;
-
-pub(crate) const JOINED: u8 = 42;
-
-pub(crate) const POSITIONED: u8 = 43;
-
-pub(crate) const PASSED: u8 = 44;
-
-pub(crate) const TIME_PASSED: u8 = 46;
-
-pub(crate) const COUNTED: u8 = 47;
+impl BadSettings {
+    // Document 01's number of the refusal.
+    pub fn number(self) -> u8
+        ensures { result ≡ 37 }
+    {
+        37
+    }
+}

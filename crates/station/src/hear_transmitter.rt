@@ -1,10 +1,8 @@
 // Hearing a Transmitter.
 ghost use Rattle.std.specs.Prelude.{◌≡◌};
-ghost use Rattle.station.specs.Hearing.{new_unit, renewed, enter, heard_transmitter};
-ghost use Rattle.station.specs.Units.{key_of};
-ghost use Rattle.station.specs.Parts.{Decides, DecidesFor};
+ghost use Rattle.station.specs.Hearing.{leaving, new_unit, renewed, enter, heard_transmitter};
 
-use crate::{Outcome, Part, Unit, answers};
+use crate::{Answer, Station, Unit};
 use pdu::Transmitter;
 
 // The entry of a unit heard for the first time.
@@ -25,53 +23,40 @@ fn new_unit(now: u64, t: Transmitter) -> Unit
 fn renewed_unit(u: Unit, t: Transmitter) -> Unit
     ensures { result ≡ renewed u t }
 {
-    let same = wire::both(t.sync.state == pdu::FINE, t.sync.id == u.id);
     Unit {
-        key: u.key,
         level: t.sync.level,
         state: t.sync.state,
         id: t.sync.id,
-        inside: wire::both(u.inside, same),
-        last: u.last,
+        inside: u.inside && t.sync.state == pdu::FINE && t.sync.id == u.id,
+        ..u
     }
 }
 
-// A Transmitter whose key is unknown.
+// A Transmitter whose key is unknown: 40 or 30.
 #[tactic(auto, unfolding(crate::specs::Hearing::enter))]
-fn enter_unit(mut p: Part, t: Transmitter) -> Outcome
-    ensures { Decides (λ s i. enter s t) p result }
+fn enter_unit(station: &mut Station, t: Transmitter) -> Answer
+    ensures { leaving result station.new ≡ enter station.old t }
 {
-    let i = occupancy::free_place(p.used);
-    if occupancy::PLACES <= i {
-        return Outcome {
-            part: p,
-            answer: answers::NO_ROOM,
-        };
-    }
-    let used = occupancy::with_place(p.used, i);
-    let unit = new_unit(p.own.clock, t);
-    p.used = used;
-    p.place = i;
-    p.unit = unit;
-    Outcome {
-        part: p,
-        answer: answers::ENTERED,
+    match occupancy::free_place(station.used) {
+        None => Answer::NoRoom,
+        Some(i) => {
+            station.used = occupancy::with_place(station.used, i);
+            station.units[i] = new_unit(station.own.clock, t);
+            Answer::Entered
+        }
     }
 }
 
 // A Transmitter: 40, 41 or 30.
 #[tactic(auto, unfolding(crate::specs::Hearing::heard_transmitter, crate::specs::Hearing::renew))]
-pub(crate) fn transmitter(mut p: Part, t: Transmitter) -> Outcome
-    ensures { DecidesFor (key_of t.header) (λ s. heard_transmitter s t) p result }
+pub(crate) fn transmitter(station: &mut Station, t: Transmitter) -> Answer
+    ensures { leaving result station.new ≡ heard_transmitter station.old t }
 {
-    if occupancy::PLACES <= p.place {
-        return enter_unit(p, t);
-    }
-    let u = p.unit;
-    let unit = renewed_unit(u, t);
-    p.unit = unit;
-    Outcome {
-        part: p,
-        answer: answers::RENEWED,
+    match station.place_of(crate::key_of(t.header)) {
+        None => enter_unit(station, t),
+        Some(i) => {
+            station.units[i] = renewed_unit(station.units[i], t);
+            Answer::Renewed
+        }
     }
 }

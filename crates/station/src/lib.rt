@@ -2,13 +2,13 @@
 // Every public call takes every station and every argument, and is promised as a whole answer and a whole station after it.
 #![tactic(auto)]
 
-ghost use Rattle.std.specs.Prelude.{◌≡◌};
+ghost use Rattle.std.specs.Prelude.{◌≡◌, ◌<◌};
 ghost use Rattle.pdu.specs.Reading.{reading};
 ghost use Rattle.station.specs.Units.{level_of, net_of, exchanges_of, limit_of, count_of, id_of, state_of, clock_of, key_of, fresh, wrong_settings};
 ghost use Rattle.station.specs.Units.{settings_of, usual_settings, made, state_number, units_held};
-ghost use Rattle.station.specs.Units.{seen_of, place_at};
+ghost use Rattle.occupancy.specs.Places.{places, Finds};
+ghost use Rattle.station.specs.Units.{holds, place_of, seen_of, place_at};
 ghost use Rattle.station.specs.Hearing.{heard};
-ghost use Rattle.station.specs.Parts.{sender_key, DecidesFor};
 ghost use Rattle.station.specs.Clock.{clocked};
 
 use pdu::{Header, Reading};
@@ -17,6 +17,8 @@ mod answers;
 mod hear_signal;
 mod hear_transmitter;
 mod pass_time;
+
+pub use answers::{Answer, BadSettings};
 
 // How many units a station holds at most.
 pub const PLACES: usize = occupancy::PLACES;
@@ -37,7 +39,7 @@ pub const USUAL_LIMIT: u16 = 96;
 const KEY_PART: u64 = 65536;
 
 // The station's own state in the net.
-#[derive(Clone, Copy)]
+#[derive(Clone, Copy, Debug, PartialEq, Eq)]
 pub enum State {
     Waiting,
     Coarse,
@@ -45,7 +47,7 @@ pub enum State {
 }
 
 // What a station is made with; no call changes it.
-#[derive(Clone, Copy)]
+#[derive(Clone, Copy, Debug, PartialEq, Eq)]
 pub struct Settings {
     limit: u16,
     level: u8,
@@ -54,7 +56,7 @@ pub struct Settings {
 }
 
 // Where a station stands in the net.
-#[derive(Clone, Copy)]
+#[derive(Clone, Copy, Debug, PartialEq, Eq)]
 pub struct Standing {
     id: u32,
     count: u8,
@@ -62,15 +64,16 @@ pub struct Standing {
 }
 
 // A station's own fields: all but its places.
-#[derive(Clone, Copy)]
+#[derive(Clone, Copy, Debug, PartialEq, Eq)]
 pub struct Own {
     clock: u64,
     standing: Standing,
     settings: Settings,
 }
 
-// An entry: what the station knows of a unit. The wide fields stand first, so that there is no gap between them to copy.
-#[derive(Clone, Copy)]
+// An entry: what the station knows of a unit. The wide fields stand first, so that there is no gap between them to copy. `state` is the PDU's own
+// number, as `Sync` has it.
+#[derive(Clone, Copy, Debug, PartialEq, Eq)]
 pub struct Unit {
     pub key: u64,
     pub last: u64,
@@ -80,48 +83,33 @@ pub struct Unit {
     pub inside: bool,
 }
 
-// A station; `used` is the word of held places, and what a free place holds means nothing. The entries stand first: with no gap before them they
+// A station. Its places are no `Option`s: document 01 asks for the word `used` (docs/DESIGN.md, "Forms that document 01 names").
+// `used` is the word of held places, and what a free place holds means nothing. The entries stand first: with no gap before them they
 // are copied as one block.
-#[derive(Clone, Copy)]
+#[derive(Clone, Copy, Debug, PartialEq, Eq)]
 pub struct Station {
-    units: [Unit; occupancy::PLACES],
+    units: [Unit; PLACES],
     own: Own,
     used: u16,
 }
 
-// What one datagram can touch of a station: its own fields, its word, and the entry in the sender's place. An unknown sender's place is 16, and
-// the entry that of place 0.
-#[derive(Clone, Copy)]
-struct Part {
-    own: Own,
-    used: u16,
-    place: usize,
-    unit: Unit,
-}
-
-// What the rules make of a part, and the answer.
-#[derive(Clone, Copy)]
-struct Outcome {
-    part: Part,
-    answer: u8,
-}
-
-// What a maker answers: 0, or 37 with a station of level 0, net 0, 1 exchange and the usual limit.
-#[derive(Clone, Copy)]
+// What a maker gives: the station asked for; or its refusal of the settings, with a station of level 0, net 0, 1 exchange and the usual limit.
+// `Heard` differs in the answer's type alone: a generic pair under both would be no plainer, since `made` and `heard` name these two types.
+#[derive(Clone, Copy, Debug, PartialEq, Eq)]
 pub struct Made {
     pub station: Station,
-    pub answer: u8,
+    pub answer: Result<(), BadSettings>,
 }
 
-// What a call on a station answers, by document 01's number, and the station after it.
-#[derive(Clone, Copy)]
+// What a call on a station answers, and the station after it.
+#[derive(Clone, Copy, Debug, PartialEq, Eq)]
 pub struct Heard {
     pub station: Station,
-    pub answer: u8,
+    pub answer: Answer,
 }
 
 // What a Signal says to a station: J0.0, a PPLI, round-trip timing (request R-1), or all else.
-#[derive(Clone, Copy)]
+#[derive(Clone, Copy, Debug, PartialEq, Eq)]
 pub enum Message {
     NetEntry,
     Ppli,
@@ -130,18 +118,11 @@ pub enum Message {
     Other,
 }
 
-// What a station knows of a key.
-#[derive(Clone, Copy)]
-pub enum Seen {
-    Unknown,
-    Known { inside: bool, last: u64 },
-}
-
-// What a place holds.
-#[derive(Clone, Copy)]
-pub enum Place {
-    Free,
-    Held(Unit),
+// What a station knows of a unit: whether it is In, and when it was last heard.
+#[derive(Clone, Copy, Debug, PartialEq, Eq)]
+pub struct Seen {
+    pub inside: bool,
+    pub last: u64,
 }
 
 // A station of these settings before its first call.
@@ -149,16 +130,6 @@ pub enum Place {
 fn fresh_station(settings: Settings) -> Station
     ensures { result ≡ fresh settings }
 {
-    let standing = Standing {
-        id: 0,
-        count: 0,
-        state: State::Waiting,
-    };
-    let own = Own {
-        clock: 0,
-        standing,
-        settings,
-    };
     let blank = Unit {
         key: 0,
         last: 0,
@@ -167,11 +138,18 @@ fn fresh_station(settings: Settings) -> Station
         state: 0,
         inside: false,
     };
-    let units = [blank; occupancy::PLACES];
     Station {
-        own,
+        units: [blank; PLACES],
+        own: Own {
+            clock: 0,
+            standing: Standing {
+                id: 0,
+                count: 0,
+                state: State::Waiting,
+            },
+            settings,
+        },
         used: 0,
-        units,
     }
 }
 
@@ -179,19 +157,15 @@ fn fresh_station(settings: Settings) -> Station
 fn wrong_settings(settings: Settings) -> bool
     ensures { result ≡ wrong_settings settings }
 {
-    let asked = settings.exchanges;
-    let absence = settings.limit;
-    let net = wire::either(
-        pdu::LAST_LEVEL < settings.level,
-        pdu::LAST_NET < settings.net,
-    );
-    let exchanges = wire::either(asked < FEWEST_EXCHANGES, MOST_EXCHANGES < asked);
-    let limit = wire::either(absence < SHORTEST_LIMIT, LONGEST_LIMIT < absence);
-    wire::either(wire::either(net, exchanges), limit)
+    pdu::LAST_LEVEL < settings.level
+        || pdu::LAST_NET < settings.net
+        || !(FEWEST_EXCHANGES..=MOST_EXCHANGES).contains(&settings.exchanges)
+        || !(SHORTEST_LIMIT..=LONGEST_LIMIT).contains(&settings.limit)
 }
 
 // Makes a station of this level and net, with this number of exchanges of round-trip timing and this absence limit in seconds; 37 where the
-// level is above 4, the net above 127, the exchanges are not 1 to 16, or the limit is not 24 to 600.
+// level is above 4, the net above 127, the exchanges are not 1 to 16, or the limit is not 24 to 600. Four numbers and no struct: `made_by_rules` speaks of
+// the numbers that a caller gives.
 #[tactic(auto, unfolding(crate::specs::Units::made))]
 pub fn with_limit(level: u8, net: u8, exchanges: u8, limit: u16) -> Made
     ensures { result ≡ made (settings_of level net exchanges limit) }
@@ -211,99 +185,57 @@ pub fn with_limit(level: u8, net: u8, exchanges: u8, limit: u16) -> Made
         };
         return Made {
             station: fresh_station(least),
-            answer: answers::BAD_SETTINGS,
+            answer: Err(BadSettings),
         };
     }
     Made {
         station: fresh_station(settings),
-        answer: answers::MADE,
+        answer: Ok(()),
     }
 }
 
-// Makes a station with the usual limit, 96 seconds; 37 as above.
+// Makes a station with the usual limit, 96 seconds; 37 as above. It is public by this name beside `with_limit` (docs/AUDIT.md, question 4).
 pub fn new(level: u8, net: u8, exchanges: u8) -> Made
     ensures { result ≡ made (usual_settings level net exchanges) }
 {
     with_limit(level, net, exchanges, USUAL_LIMIT)
 }
 
-// What a reading of the datagram makes of the part with its sender's place.
+// The station's call on a datagram: the reader's number, 30 to 35, 40 to 44, or 47.
+// This call and `clock` take the station by value and hand it back, as docs/AUDIT.md (question 4) names them and `heard` and `clocked` say.
 #[tactic(auto, unfolding(crate::specs::Hearing::heard, crate::specs::Hearing::step))]
-fn outcome_of(part: Part, read: Reading, datagram: &[u8]) -> Outcome
-    requires { read ≡ reading datagram.now }
-    ensures { DecidesFor (sender_key read) (λ s. heard s datagram.now) part result }
-{
-    match read {
-        Reading::Refused(n) => Outcome { part, answer: n },
-        Reading::Transmitter(t) => hear_transmitter::transmitter(part, t),
-        Reading::Signal(g, size) => {
-            let end = pdu::BODY_START + size as usize;
-            let word = reader::words::at(&datagram[pdu::BODY_START..end], 0);
-            hear_signal::signal(part, g, word)
-        }
-    }
-}
-
-// The station's call on a datagram: the reader's number, 30 to 35, 40 to 44, or 47. The sender is looked for here: to hand the entries to a function
-// would copy them.
-pub fn hear(station: Station, datagram: &[u8]) -> Heard
+pub fn hear(mut station: Station, datagram: &[u8]) -> Heard
     ensures { result ≡ heard station datagram.now }
 {
-    let read = reader::read(datagram);
-    let key = sender_key(read);
-    let mut units = station.units;
-    let mut i = 0;
-    while i < occupancy::PLACES {
-        let u = units[i];
-        if wire::both(occupancy::is_held(station.used, i), u.key == key) {
-            break;
+    let answer = match reader::read(datagram) {
+        Reading::Refused(refusal) => Answer::Unread(refusal),
+        Reading::Transmitter(t) => hear_transmitter::transmitter(&mut station, t),
+        Reading::Signal(g, size) => {
+            // The reader leaves the body in the caller's slice (document 01), so that who needs it cuts it.
+            let end = pdu::BODY_START + usize::from(size);
+            let word = reader::words::at(&datagram[pdu::BODY_START..end], 0);
+            hear_signal::signal(&mut station, g, word)
         }
-        i += 1;
-    }
-    let from = i % occupancy::PLACES;
-    let sender = units[from];
-    let own = station.own;
-    let part = Part {
-        own,
-        used: station.used,
-        place: i,
-        unit: sender,
     };
-    let out = outcome_of(part, read, datagram);
-    let after = out.part;
-    let to = after.place % occupancy::PLACES;
-    let unit = after.unit;
-    units[to] = unit;
-    let own = after.own;
-    let station = Station {
-        units,
-        own,
-        used: after.used,
-    };
-    Heard {
-        station,
-        answer: out.answer,
-    }
+    Heard { station, answer }
 }
 
 // The station's call on a clock: 36 where it would go back, else 46 and the silent units removed.
 #[tactic(auto, unfolding(crate::specs::Clock::at_time, crate::specs::Clock::clocked))]
-pub fn clock(station: Station, t: u64) -> Heard
+pub fn clock(mut station: Station, t: u64) -> Heard
     ensures { result ≡ clocked station t }
 {
     if t < station.own.clock {
         return Heard {
             station,
-            answer: answers::CLOCK_BACK,
+            answer: Answer::ClockBack,
         };
     }
-    let used = pass_time::survivors(station, t);
-    let mut after = station;
-    after.used = used;
-    after.own.clock = t;
+    station.used = pass_time::survivors(&station, t);
+    station.own.clock = t;
     Heard {
-        station: after,
-        answer: answers::TIME_PASSED,
+        station,
+        answer: Answer::TimePassed,
     }
 }
 
@@ -311,21 +243,28 @@ pub fn clock(station: Station, t: u64) -> Heard
 pub fn key_of(h: Header) -> u64
     ensures { result ≡ key_of h }
 {
-    let pair = h.site as u64 * KEY_PART + h.application as u64;
-    (pair * KEY_PART + h.entity as u64) * KEY_PART + h.radio as u64
+    let pair = u64::from(h.site) * KEY_PART + u64::from(h.application);
+    (pair * KEY_PART + u64::from(h.entity)) * KEY_PART + u64::from(h.radio)
 }
 
-// The key of the PDU that was read; 0 where it was refused.
-fn sender_key(reading: Reading) -> u64
-    ensures { result ≡ sender_key reading }
-{
-    match reading {
-        Reading::Refused(_) => 0,
-        Reading::Transmitter(t) => key_of(t.header),
-        Reading::Signal(g, _) => key_of(g.header),
+impl Station {
+    // Whether place i is held by the unit with this key. The place is a bare number, as in `occupancy`: it belongs to the call.
+    fn holds(&self, key: u64, i: usize) -> bool
+        requires { i < places }
+        ensures { result ≡ holds self.now key i }
+    {
+        occupancy::is_held(self.used, i) && self.units[i].key == key
+    }
+
+    // The place of a key: the lowest that is held with it.
+    fn place_of(&self, key: u64) -> Option<usize>
+        ensures { Finds result (place_of self.now key) }
+    {
+        (0..PLACES).find(|&i| self.holds(key, i))
     }
 }
 
+// The calls that look at a station stay functions, which take it by value: they are public by these names (docs/AUDIT.md, question 4).
 pub fn level_of(station: Station) -> u8
     ensures { result ≡ level_of station }
 {
@@ -367,18 +306,19 @@ pub fn id_of(station: Station) -> u32
 pub fn state_of(station: Station) -> State
     ensures { result ≡ state_of station }
 {
-    let standing = station.own.standing;
-    standing.state
+    station.own.standing.state
 }
 
-// A number for each state: 0 Waiting, 2 Coarse, 3 Fine.
-pub fn state_number(state: State) -> u8
-    ensures { result ≡ state_number state }
-{
-    match state {
-        State::Waiting => 0,
-        State::Coarse => pdu::COARSE,
-        State::Fine => pdu::FINE,
+impl State {
+    // A number for each state: 0 Waiting, 2 Coarse, 3 Fine.
+    pub fn number(self) -> u8
+        ensures { result ≡ state_number self }
+    {
+        match self {
+            State::Waiting => 0,
+            State::Coarse => pdu::COARSE,
+            State::Fine => pdu::FINE,
+        }
     }
 }
 
@@ -396,33 +336,26 @@ pub fn units_held(station: Station) -> u32
 }
 
 // What the station knows of a key.
-pub fn look(station: Station, key: u64) -> Seen
+#[tactic(auto, unfolding(crate::specs::Units::seen_of))]
+pub fn look(station: Station, key: u64) -> Option<Seen>
     ensures { result ≡ seen_of station key }
 {
-    let mut i = 0;
-    while i < occupancy::PLACES {
-        let entry = station.units[i];
-        if wire::both(occupancy::is_held(station.used, i), entry.key == key) {
-            return Seen::Known {
-                inside: entry.inside,
-                last: entry.last,
-            };
-        }
-        i += 1;
-    }
-    Seen::Unknown
+    let i = station.place_of(key)?;
+    let unit = station.units[i];
+    Some(Seen {
+        inside: unit.inside,
+        last: unit.last,
+    })
 }
 
-// What place i holds; there are places 0 to 15.
+// The unit in place i, where there is one; there are places 0 to 15.
 #[tactic(auto, unfolding(crate::specs::Units::place_at))]
-pub fn at(station: Station, i: usize) -> Place
+pub fn at(station: Station, i: usize) -> Option<Unit>
     ensures { result ≡ place_at station i }
 {
-    if i < occupancy::PLACES {
-        if occupancy::is_held(station.used, i) {
-            let u = station.units[i];
-            return Place::Held(u);
-        }
+    if i < PLACES && occupancy::is_held(station.used, i) {
+        Some(station.units[i])
+    } else {
+        None
     }
-    Place::Free
 }

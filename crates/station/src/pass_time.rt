@@ -1,39 +1,36 @@
 // Passing time: which units stay.
-ghost use Rattle.std.specs.Prelude.{◌≡◌, ◌-◌};
+ghost use Rattle.std.specs.Prelude.{◌≡◌, ◌<◌};
 ghost use Rattle.occupancy.specs.Places.{places, word_of};
 ghost use Rattle.station.specs.Clock.{silent, stays};
 
-use crate::Station;
+use crate::{PLACES, Station};
 
-// The seconds from `last` to t; none where t is earlier.
-fn elapsed(t: u64, last: u64) -> u64
-    ensures { result ≡ t - last }
-{
-    if t < last { 0 } else { t - last }
-}
-
-// Whether a unit last heard at this second is absent at t, by this limit.
+// Whether a unit last heard at this second is absent at t, by this limit; from a later second none have passed.
 fn is_silent(limit: u16, t: u64, last: u64) -> bool
     ensures { result ≡ silent limit t last }
 {
-    limit as u64 <= elapsed(t, last)
+    u64::from(limit) <= t.saturating_sub(last)
+}
+
+// Whether place i is held and stays held at t. The place is a bare number, as in `occupancy`: it belongs to the call.
+fn stays(station: &Station, t: u64, i: usize) -> bool
+    requires { i < places }
+    ensures { result ≡ stays station.now t i }
+{
+    let limit = station.own.settings.limit;
+    occupancy::is_held(station.used, i) && !is_silent(limit, t, station.units[i].last)
 }
 
 // The word of the places that stay held at t.
-pub(crate) fn survivors(s: Station, t: u64) -> u16
-    ensures { result ≡ word_of (stays s t) places }
+pub(crate) fn survivors(station: &Station, t: u64) -> u16
+    ensures { result ≡ word_of (stays station.now t) places }
 {
-    let mut word: u16 = 0;
-    let mut i = 0;
-    while i < occupancy::PLACES {
-        let u = s.units[i];
-        if wire::both(
-            occupancy::is_held(s.used, i),
-            wire::no(is_silent(s.own.settings.limit, t, u.last)),
-        ) {
+    let mut word = 0;
+    // Over the places' numbers: a place is what `stays` and `with_place` ask for.
+    for i in 0..PLACES {
+        if stays(station, t, i) {
             word = occupancy::with_place(word, i);
         }
-        i += 1;
     }
     word
 }

@@ -15,13 +15,14 @@ use borrow.Author.Tests.{ltb-true, ltb-false}
 use Rattle.station.specs.Units.{made}
 use Rattle.station.specs.declared.Station.{Station}
 use Rattle.station.specs.declared.Settings.{Settings}
+use Rattle.std.specs.Prelude.{Ok, Err}
 use Rattle.trunk.specs.Head.{head_size}
 use Rattle.trunk.specs.Kinds.{longest_pdu}
 use Rattle.trunk.specs.Line.{Entry, offer_made, send_made, reply_heard, record_heard, clock_set, Call, Line, start, step, run, accepted}
 use Rattle.trunk.specs.Line.{put_out, put_out_by, Fair}
 use Rattle.trunk.specs.Demand.{count, handover, Demand3}
 use Rattle.trunk.specs.Retries.{alternating, Delivers}
-use Rattle.trunk.specs.declared.Arrival.TheVariants.{Refused as refused_arrival, Delivered, Repeat, Early}
+use Rattle.trunk.specs.declared.Arrival.TheVariants.{Delivered, Repeat, Early}
 use Rattle.trunk.proofs.Demand3.{demand3}
 
 -- demand 3 holds after every fair list of further calls
@@ -39,10 +40,10 @@ one_put_out : (e : Entry) → length (put_out_by e) ≤ 1
 one_put_out (offer_made d a store) = omega arith
 one_put_out (send_made i a out) = omega arith
 one_put_out (reply_heard r a) = omega arith
-one_put_out (record_heard r (refused_arrival n) reply out) = omega arith
-one_put_out (record_heard r (Delivered size answer) reply out) = omega arith
-one_put_out (record_heard r Repeat reply out) = omega arith
-one_put_out (record_heard r Early reply out) = omega arith
+one_put_out (record_heard r (Err e) reply out) = omega arith
+one_put_out (record_heard r (Ok (Delivered size answer)) reply out) = omega arith
+one_put_out (record_heard r (Ok Repeat) reply out) = omega arith
+one_put_out (record_heard r (Ok Early) reply out) = omega arith
 one_put_out (clock_set t a) = omega arith
 
 one_more : (log : List Entry) → count log ≤ count (drop 1 log) + 1

@@ -11,15 +11,17 @@ use lib.ListN.{length, take, drop, length-append, length-drop, take-append-drop}
 use lib.Seq.{take_at, drop_at, take_all, length-take-le}
 use lib.Dec.{eqb}
 use native.Mathlib.Omega.{arith}
-use borrow.Author.Tests.{eqb-true, eqb-false, eq-eqb, ne_eqb}
+use borrow.Author.Tests.{eqb-true, eqb-false, eq-eqb, ne_eqb, not-false}
 use Rattle.wire.specs.Bytes.{Bytes, splice}
 use Rattle.wire.proofs.FitLaws.{bytes_take, bytes_drop}
 use Rattle.pdu.specs.Forms.{size_of}
 use Rattle.pdu.specs.Reading.{start_rules, reading_rules, refusal, reading, used, number_of}
 use Rattle.pdu.specs.Writing.{written_form}
+use Rattle.pdu.specs.declared.Reading.{Reading}
 use Rattle.pdu.proofs.BundleLaws.{used-field, used-fits, used_some, behind_nothing, first_alone, same_zero}
 use Rattle.pdu.proofs.RoundTrip.{written_form_back}
-use Rattle.trunk.specs.Kinds.{kind_of, no_kind}
+use Rattle.std.specs.Prelude.{IsSome, is_some, is_none}
+use Rattle.trunk.specs.Kinds.{kind_of, offered_kind}
 use Rattle.trunk.specs.Bundle.{first_pdu, behind_first, stop_of, stop_in, pdus_in, turns, slice_stop, bundle, bundle_stop}
 use Rattle.trunk.specs.Record.{head_for, record_of}
 use Rattle.trunk.specs.Near.{row_start, stored}
@@ -29,29 +31,29 @@ use Rattle.trunk.proofs.RecordLaws.{reader_number, type_says}
 -- ---- what stops a PDU
 
 pub data Stops (d : List ℕ) : ℕ → Type 0 where
-  passes : refusal d ≡ 0 → kind_of (reading d) ≢ no_kind → Stops d 0
+  passes : refusal d ≡ 0 → IsSome (kind_of (reading d)) → Stops d 0
   unread : refusal d ≢ 0 → Stops d (refusal d)
   unfit : refusal d ≡ 0 → ¬ TypeRule d → Stops d 23
 
 pub stops : (d : List ℕ) → Stops d (stop_of (reading d))
 unfolding stop_of
-stops d = rw (reader_number d) (by (eqb (refusal d) 0) (eqb (kind_of (reading d)) no_kind) refl refl)
+stops d = rw (reader_number d) (by (eqb (refusal d) 0) (is_none (kind_of (reading d))) refl refl)
   where
     by :
         (a b : Bool)
         → eqb (refusal d) 0 ≡ a
-        → eqb (kind_of (reading d)) no_kind ≡ b
+        → is_none (kind_of (reading d)) ≡ b
         → Stops d (cond (not a) (refusal d) (cond b 23 0))
     by true true e k =
         let taken = eqb-true _ _ e in
         unfit taken (λ t. true≢false (sym k ∙ (type_says d taken).1 t))
-    by true false e k = passes (eqb-true _ _ e) (eqb-false _ _ k)
+    by true false e k = passes (eqb-true _ _ e) (not-false _ k)
     by false b e k = unread (eqb-false _ _ e)
 
 -- a PDU that nothing stops is taken, and carried
 pub record Passes (d : List ℕ) : Type 0 where
   pub taken : refusal d ≡ 0
-  pub kind : kind_of (reading d) ≢ no_kind
+  pub kind : IsSome (kind_of (reading d))
 
 pub passing : (d : List ℕ) → stop_of (reading d) ≡ 0 → Passes d
 passing d e = by (stops d) e
@@ -62,7 +64,7 @@ passing d e = by (stops d) e
     by (unfit taken t) z = absurd (omega arith)
 
 pub carried_type : (d : List ℕ) → Passes d → TypeRule d
-carried_type d p = (type_says d p.taken).0 (ne_eqb _ _ p.kind)
+carried_type d p = (type_says d p.taken).0 (ap not p.kind)
 
 -- one number alone stops it
 one_stop : (d : List ℕ) {m n : ℕ} → Stops d m → Stops d n → m ≡ n
@@ -188,7 +190,7 @@ one_pdu d p =
     let long : length (first_pdu d) ≡ used d = length-take-le (used d) d (used-fits d p.taken) in
     let alone : Passes (first_pdu d) = record {
       taken = sym (reader_number (first_pdu d)) ∙ ap number_of same ∙ reader_number d ∙ p.taken;
-      kind = λ e. p.kind (ap kind_of (sym same) ∙ e);
+      kind = ap (λ (r : Reading). is_some (kind_of r)) same ∙ p.kind;
     } in
     record {
       taken = alone.taken;
@@ -322,7 +324,7 @@ module _ (p t : List ℕ) (one : OnePdu p) where
   goes_on : stop_of (reading (p ++ t)) ≡ 0
   goes_on =
       ap stop_of read_same
-      ∙ one_stop p (stops p) (passes one.taken (eqb-false _ _ ((type_says p one.taken).1 one.carried)))
+      ∙ one_stop p (stops p) (passes one.taken (not-false _ ((type_says p one.taken).1 one.carried)))
 
   has-bytes : 0 < length (p ++ t)
   has-bytes = omega (arith, length-append p t, size_is, used_some p one.taken)
@@ -431,7 +433,7 @@ first-written d e =
 pub first-stored : (number : ℕ) (store d : List ℕ) → refusal d ≡ 0 → stored number store d ≡ stored number store (first_pdu d)
 first-stored number store d e =
     ap₂ (λ (k : ℕ) (w : List ℕ). splice (row_start number) (record_of (head_for k number) w) store)
-    (ap kind_of (sym (first_alone d e)))
+    (ap offered_kind (sym (first_alone d e)))
     (sym (first-written d e))
 
 -- the PDUs of a slice of bytes are bytes

@@ -3,9 +3,9 @@
 -- of the rules.
 -- Assumes nothing.
 use Prim.Native.Nat.{ℕ, ◌+◌, ◌≤◌, ◌<◌, max}
-use mathlib.Core.Path.{◌≡◌, refl}
+use mathlib.Core.Path.{◌≡◌, refl, ap}
 use mathlib.Core.Logic.{◌≢◌}
-use mathlib.Core.Bool.{Bool, true, false, cond}
+use mathlib.Core.Bool.{Bool, true, false, not, ◌&&◌}
 use mathlib.Core.List.{List, ◌++◌}
 use lib.ListN.{length, drop}
 use lib.Dec.{eqb, ltb}
@@ -13,40 +13,72 @@ use native.Mathlib.Omega.{arith}
 use borrow.Author.Tests.{eqb-true, eqb-false, ltb-true, ltb-false}
 use Rattle.std.proofs.lemmas.Bool.Decides.{nat_tests}
 use Rattle.wire.specs.Bytes.{Bytes}
-use Rattle.wire.specs.First.{first}
+use Rattle.wire.specs.First.{first, lacks}
 use Rattle.wire.specs.Rules.{Met, FirstBroken}
 use Rattle.wire.specs.Rules.{Verdict}
 use Rattle.trunk.specs.Head.{head_size}
 use Rattle.trunk.specs.Kinds.{record_size}
-use Rattle.trunk.specs.Record.{reply_of, number_in, carried_in}
+use Rattle.trunk.specs.Record.{reply_of, number_in, carried_in, form_rules, pdu_rules, check_rules}
 use Rattle.trunk.specs.Bundle.{bundle_stop, bundle}
-use Rattle.trunk.specs.Near.{row_kind, row_record, more_accepted, stored_all, offer_rules, offered, store_after, send_rules, sent, sent_out}
+use Rattle.trunk.specs.Near.{row_kind, row_record, more_accepted, stored_all, offer_rules_of, offer_rules, offered, store_after, send_rules, sent, sent_out}
 use Rattle.trunk.specs.Near.{reply_rules, acknowledged_after, acknowledging, replied}
 use Rattle.trunk.specs.Far.{arrival_rules, is_next, count_after, delivered, arrived, reply_after, output_after}
-use Rattle.trunk.specs.Plain.{plain_offer, plain_send, plain_reply, plain_arrival}
+use Rattle.trunk.specs.Plain.{Ends, at_end, refused, not_carried, plain_offer, plain_send, plain_reply, plain_arrival}
 use Rattle.trunk.specs.declared.Near.{Near}
 use Rattle.trunk.specs.declared.Far.{Far}
-use Rattle.trunk.specs.declared.Offer.TheVariants.{Refused as refused_offer, Taken}
 use Rattle.trunk.specs.declared.Offered.{Offered}
 use Rattle.trunk.specs.declared.Sending.{Sending}
-use Rattle.trunk.specs.declared.Sent.TheVariants.{Refused as refused_send, Size}
-use Rattle.trunk.specs.declared.Reply.TheVariants.{Refused as refused_reply, Acknowledged}
 use Rattle.trunk.specs.declared.Replied.{Replied}
-use Rattle.trunk.specs.declared.Arrival.TheVariants.{Refused as refused_arrival, Repeat, Early}
+use Rattle.trunk.specs.declared.Arrival.TheVariants.{Repeat, Early}
 use Rattle.trunk.specs.declared.Arrived.{Arrived}
+use Rattle.std.specs.Prelude.{Ok, Err}
+use Rattle.pdu.specs.Refusals.{named as pdu_named}
+use Rattle.trunk.specs.Refusals.{Refusal, NotCarried, number, named}
+use Rattle.trunk.proofs.RefusalLaws.{strange, own_usual, read_usual, named_broken}
+use Rattle.trunk.proofs.BundleLaws.{walked}
 use Rattle.trunk.proofs.RuleLaws.{offer-verdict, send-verdict, reply_verdict, arrival_verdict}
 use Rattle.trunk.proofs.Refused.{reply_kept, output_kept}
+
+-- ---- the number of each call's first broken rule is that of a refusal
+
+stop_usual : (d : List ℕ) → strange (bundle_stop d) ≡ false
+stop_usual d = let (left, w) = walked d in by w.ends
+  where
+    by : {ps : List (List ℕ)} {left : List ℕ} {n : ℕ} → Ends ps left n → strange n ≡ false
+    by (at_end some none) = refl
+    by (refused before h) = read_usual _ h
+    by (not_carried taken t) = own_usual NotCarried
+
+pub offer_known : (near : Near) (store d : List ℕ) → lacks strange (offer_rules near store d) ≡ true
+unfolding offer_rules_of named pdu_named
+offer_known near store d = ap (λ (b : Bool). not b && true) (stop_usual d)
+
+pub send_known : (near : Near) (store : List ℕ) (i room : ℕ) → lacks strange (send_rules near store i room) ≡ true
+unfolding send_rules named pdu_named
+send_known near store i room = refl
+
+pub reply_known : (near : Near) (r : List ℕ) → lacks strange (reply_rules near r) ≡ true
+unfolding reply_rules form_rules named pdu_named
+reply_known near r = refl
+
+pub arrival_known : (r : List ℕ) (reply_room room : ℕ) → lacks strange (arrival_rules r reply_room room) ≡ true
+unfolding arrival_rules form_rules pdu_rules named pdu_named
+arrival_known r reply_room room = refl
+
+pub check_known : (r : List ℕ) → lacks strange (check_rules r) ≡ true
+unfolding form_rules pdu_rules named pdu_named
+check_known r = refl
 
 -- ---- offering
 
 -- an offer's answer with the near end after it, and the store after it
 pub data OfferOutcome (near : Near) (store d : List ℕ) : Offered → List ℕ → Type 0 where
-  offer_refused : (n : ℕ)
-      → FirstBroken n (plain_offer near store (bundle_stop d) (length (bundle d)))
-      → OfferOutcome near store d (record { near = near; answer = refused_offer n }) store
+  offer_refused : (e : Refusal)
+      → FirstBroken (number e) (plain_offer near store (bundle_stop d) (length (bundle d)))
+      → OfferOutcome near store d (record { near = near; answer = Err e }) store
   offer_taken : Met (plain_offer near store (bundle_stop d) (length (bundle d)))
       → OfferOutcome near store d
-      (record { near = more_accepted near (length (bundle d)); answer = Taken near.accepted })
+      (record { near = more_accepted near (length (bundle d)); answer = Ok near.accepted })
       (stored_all near.accepted store (bundle d))
 
 pub offer_outcome : (near : Near) (store d : List ℕ) → OfferOutcome near store d (offered near store d) (store_after near store d)
@@ -58,18 +90,21 @@ offer_outcome near store d = by (eqb (first (offer_rules near store d)) 0) refl
 
     by : (b : Bool) → eqb (first (offer_rules near store d)) 0 ≡ b → OfferOutcome near store d (offered near store d) (store_after near store d)
     by true e = rw e (offer_taken (v.none.0 (eqb-true _ _ e)))
-    by false e = rw e (offer_refused _ ((v.some _).0 (refl, eqb-false _ _ e)))
+    by false e =
+        rw e
+        (offer_refused _
+        (named_broken (plain_offer near store (bundle_stop d) (length (bundle d))) v (offer_known near store d) (eqb-false _ _ e)))
 
 -- ---- sending
 
 -- a send's answer, and the lent buffer after it
 pub data SendOutcome (near : Near) (store : List ℕ) (i : ℕ) (out : List ℕ) : Sending → List ℕ → Type 0 where
-  send_refused : (n : ℕ)
-      → FirstBroken n (plain_send near store i (length out))
-      → SendOutcome near store i out (record { near = near; answer = refused_send n }) out
+  send_refused : (e : Refusal)
+      → FirstBroken (number e) (plain_send near store i (length out))
+      → SendOutcome near store i out (record { near = near; answer = Err e }) out
   send_taken : Met (plain_send near store i (length out))
       → SendOutcome near store i out
-      (record { near = near; answer = Size (record_size (row_kind store i)) })
+      (record { near = near; answer = Ok (record_size (row_kind store i)) })
       (row_record store i ++ drop (record_size (row_kind store i)) out)
 
 pub send_outcome :
@@ -86,30 +121,22 @@ send_outcome near store i out = by (eqb (first (send_rules near store i (length 
         → eqb (first (send_rules near store i (length out))) 0 ≡ b
         → SendOutcome near store i out (sent near store i (length out)) (sent_out near store i out)
     by true e = rw e (send_taken (v.none.0 (eqb-true _ _ e)))
-    by false e = rw e (send_refused _ ((v.some _).0 (refl, eqb-false _ _ e)))
+    by false e = rw e (send_refused _ (named_broken (plain_send near store i (length out)) v (send_known near store i (length out)) (eqb-false _ _ e)))
 
 -- ---- taking a reply
 
 -- the acknowledged count after a reply is the larger of the two numbers
 pub after_is_max : (count number : ℕ) → acknowledged_after count number ≡ max count number
-after_is_max count number = by (ltb number count) refl
-  where
-    by : (b : Bool) → ltb number count ≡ b → cond b count number ≡ max count number
-    by true e =
-        let less : number < count = ltb-true _ _ e in
-        omega arith
-    by false e =
-        let least : count ≤ number = ltb-false _ _ e in
-        omega arith
+after_is_max count number = refl
 
 -- a reply's answer with the near end after it
 pub data ReplyOutcome (near : Near) (r : List ℕ) : Replied → Type 0 where
-  reply_refused : (n : ℕ) → FirstBroken n (plain_reply near r) → ReplyOutcome near r (record { near = near; answer = refused_reply n })
+  reply_refused : (e : Refusal) → FirstBroken (number e) (plain_reply near r) → ReplyOutcome near r (record { near = near; answer = Err e })
   reply_taken : Met (plain_reply near r)
       → ReplyOutcome near r
       (record {
         near = acknowledging near (number_in r);
-        answer = Acknowledged (acknowledged_after near.acknowledged (number_in r));
+        answer = Ok (acknowledged_after near.acknowledged (number_in r));
       })
 
 pub reply_outcome : (near : Near) (r : List ℕ) → ReplyOutcome near r (replied near r)
@@ -121,7 +148,7 @@ reply_outcome near r = by (eqb (first (reply_rules near r)) 0) refl
 
     by : (b : Bool) → eqb (first (reply_rules near r)) 0 ≡ b → ReplyOutcome near r (replied near r)
     by true e = rw e (reply_taken (v.none.0 (eqb-true _ _ e)))
-    by false e = rw e (reply_refused _ ((v.some _).0 (refl, eqb-false _ _ e)))
+    by false e = rw e (reply_refused _ (named_broken (plain_reply near r) v (reply_known near r) (eqb-false _ _ e)))
 
 -- ---- a record at the far end
 
@@ -145,9 +172,9 @@ count-stays k number e = rw e
 
 -- an arrival's answer with the far end after it, the reply buffer and the output after it
 pub data ArrivalOutcome (far : Far) (r reply out : List ℕ) : Arrived → List ℕ → List ℕ → Type 0 where
-  arrival_refused : (n : ℕ)
-      → FirstBroken n (plain_arrival r (length reply) (length out))
-      → ArrivalOutcome far r reply out (record { far = far; answer = refused_arrival n }) reply out
+  arrival_refused : (e : Refusal)
+      → FirstBroken (number e) (plain_arrival r (length reply) (length out))
+      → ArrivalOutcome far r reply out (record { far = far; answer = Err e }) reply out
   arrival_delivered : Met (plain_arrival r (length reply) (length out))
       → number_in r ≡ far.count
       → ArrivalOutcome far r reply out
@@ -156,10 +183,10 @@ pub data ArrivalOutcome (far : Far) (r reply out : List ℕ) : Arrived → List 
       (carried_in r ++ drop (length (carried_in r)) out)
   arrival_repeat : Met (plain_arrival r (length reply) (length out))
       → number_in r < far.count
-      → ArrivalOutcome far r reply out (record { far = far; answer = Repeat }) (reply_of far.count ++ drop head_size reply) out
+      → ArrivalOutcome far r reply out (record { far = far; answer = Ok Repeat }) (reply_of far.count ++ drop head_size reply) out
   arrival_early : Met (plain_arrival r (length reply) (length out))
       → far.count < number_in r
-      → ArrivalOutcome far r reply out (record { far = far; answer = Early }) (reply_of far.count ++ drop head_size reply) out
+      → ArrivalOutcome far r reply out (record { far = far; answer = Ok Early }) (reply_of far.count ++ drop head_size reply) out
 
 pub arrival_outcome :
     (far : Far) (r reply out : List ℕ)
@@ -201,14 +228,14 @@ arrival_outcome far r reply out b = by (eqb (first (arrival_rules r (length repl
     by true e = placed_by (is_next far.count (number_in r)) (ltb (number_in r) far.count) refl refl e
     by false e =
         rw (output_kept far r (length reply) out e, reply_kept far r reply (length out) e, e)
-        (arrival_refused _ ((v.some _).0 (refl, eqb-false _ _ e)))
+        (arrival_refused _ (named_broken (plain_arrival r (length reply) (length out)) v (arrival_known r (length reply) (length out)) (eqb-false _ _ e)))
 
 -- ---- calls that break no rule
 
 pub sends :
     (near : Near) (store : List ℕ) (i : ℕ) (out : List ℕ)
     → first (send_rules near store i (length out)) ≡ 0
-    → ((sent near store i (length out)).answer ≡ Size (record_size (row_kind store i)))
+    → ((sent near store i (length out)).answer ≡ Ok (record_size (row_kind store i)))
     × (sent_out near store i out ≡ row_record store i ++ drop (record_size (row_kind store i)) out)
 unfolding sent sent_out
 sends near store i out e = (rw e, rw e)

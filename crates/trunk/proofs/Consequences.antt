@@ -10,17 +10,17 @@ use mathlib.Core.List.{map, map-append}
 use lib.ListN.{get_or, take, drop, take-append-drop}
 use lib.Seq.{get_or-take}
 use native.Mathlib.Omega.{arith}
+use Rattle.std.specs.Prelude.{Result, Ok, Err}
 use Rattle.pdu.specs.Writing.{padding_zero}
 use Rattle.station.specs.Runs.{Call as StationCall, datagram, time}
 use Rattle.station.specs.declared.Settings.{Settings}
+use Rattle.trunk.specs.Refusals.{Refusal}
 use Rattle.trunk.specs.Bundle.{bundle}
 use Rattle.trunk.specs.Line.{Entry, offer_made, send_made, reply_heard, record_heard, clock_set, Call, offer, send, to_near, to_far, tick}
 use Rattle.trunk.specs.Line.{Line, start, step, run, accepted, put_out, put_out_by, events, events_by, Fair}
 use Rattle.trunk.specs.Demand.{given, given_by, count}
 use Rattle.trunk.specs.Consequences.{datagrams, WasOffered, Consequences}
-use Rattle.trunk.specs.declared.Offer.{Offer}
-use Rattle.trunk.specs.declared.Offer.TheVariants.{Refused as refused_offer, Taken}
-use Rattle.trunk.specs.declared.Arrival.TheVariants.{Refused as refused_arrival, Delivered, Repeat, Early}
+use Rattle.trunk.specs.declared.Arrival.TheVariants.{Delivered, Repeat, Early}
 use Rattle.trunk.proofs.Demand3.{demand3}
 
 -- ---- each order once
@@ -35,10 +35,10 @@ entry-heard : (e : Entry) → datagrams (events_by e) ≡ put_out_by e
 entry-heard (offer_made d a store) = refl
 entry-heard (send_made i a out) = refl
 entry-heard (reply_heard r a) = refl
-entry-heard (record_heard r (refused_arrival n) reply out) = refl
-entry-heard (record_heard r (Delivered size answer) reply out) = refl
-entry-heard (record_heard r Repeat reply out) = refl
-entry-heard (record_heard r Early reply out) = refl
+entry-heard (record_heard r (Err e) reply out) = refl
+entry-heard (record_heard r (Ok (Delivered size answer)) reply out) = refl
+entry-heard (record_heard r (Ok Repeat) reply out) = refl
+entry-heard (record_heard r (Ok Early) reply out) = refl
 entry-heard (clock_set t a) = refl
 
 all-heard : (log : List Entry) → datagrams (events log) ≡ put_out log
@@ -53,13 +53,13 @@ Came p log =
     (d : List ℕ)
     × (i : ℕ)
     × (store : List ℕ)
-    × Memᴰ (offer_made d (Taken i) store) log
+    × Memᴰ (offer_made d (Ok i) store) log
     × ((q : List ℕ) × Memᴰ q (bundle d) × (p ≡ padding_zero q))
 
 here : (p : List ℕ) (log : List Entry) (e : Entry) → Memᴰ p (map padding_zero (given_by e)) → Came p (e ∷ log)
 unfolding Came
-here p log (offer_made d (refused_offer n) store) m = absurd (Memᴰ.not-nil m)
-here p log (offer_made d (Taken i) store) m =
+here p log (offer_made d (Err e) store) m = absurd (Memᴰ.not-nil m)
+here p log (offer_made d (Ok i) store) m =
     let (q, inside, form) = Memᴰ.of_map padding_zero (bundle d) m in
     (d, i, store, Memᴰ.head refl, (q, inside, sym form))
 here p log (send_made i a out) m = absurd (Memᴰ.not-nil m)
@@ -78,7 +78,7 @@ came p (e ∷ log) m =
     [ inl old ↦ before p log e (came p log old) | inr new ↦ here p log e new ]
 
 -- an entry of an offer came from a call of the list, or stood in the log before
-InList : List ℕ → Offer → List ℕ → Line → List Call → Type 0
+InList : List ℕ → Result ℕ Refusal → List ℕ → Line → List Call → Type 0
 InList d a store l calls = Memᴰ (offer_made d a store) l.log ⊎ Memᴰ (offer d) calls
 
 -- an entry of another call is none of an offer
@@ -90,7 +90,7 @@ offers (record_heard r a reply out) = 0
 offers (clock_set t a) = 0
 
 skip :
-    (d : List ℕ) (a : Offer) (store : List ℕ) (e : Entry) (log : List Entry)
+    (d : List ℕ) (a : Result ℕ Refusal) (store : List ℕ) (e : Entry) (log : List Entry)
     → offers e ≡ 0
     → Memᴰ (offer_made d a store) (e ∷ log)
     → Memᴰ (offer_made d a store) log
@@ -100,13 +100,13 @@ skip d a store e log z m = elim (Memᴰ.cases_cons m) [ inl same ↦ absurd (nev
     never e = omega arith
 
 by_call :
-    (d : List ℕ) (a : Offer) (store : List ℕ) (l : Line) (c : Call) (cs : List Call)
+    (d : List ℕ) (a : Result ℕ Refusal) (store : List ℕ) (l : Line) (c : Call) (cs : List Call)
     → Memᴰ (offer_made d a store) (step l c).log
     → InList d a store l (c ∷ cs)
 unfolding InList
 by_call d a store l (offer x) cs m = elim (Memᴰ.cases_cons m) [ inl e ↦ inr (Memᴰ.head (ap offer (same_offer e))) | inr old ↦ inl old ]
   where
-    same_offer : {b : Offer} {after : List ℕ} → offer_made d a store ≡ offer_made x b after → d ≡ x
+    same_offer : {b : Result ℕ Refusal} {after : List ℕ} → offer_made d a store ≡ offer_made x b after → d ≡ x
     same_offer e = cc
 by_call d a store l (send i out) cs m = inl (skip d a store _ l.log refl m)
 by_call d a store l (to_near r) cs m = inl (skip d a store _ l.log refl m)
@@ -114,7 +114,7 @@ by_call d a store l (to_far r reply out) cs m = inl (skip d a store _ l.log refl
 by_call d a store l (tick t) cs m = inl (skip d a store _ l.log refl m)
 
 in_list :
-    (d : List ℕ) (a : Offer) (store : List ℕ) (l : Line) (calls : List Call)
+    (d : List ℕ) (a : Result ℕ Refusal) (store : List ℕ) (l : Line) (calls : List Call)
     → Memᴰ (offer_made d a store) (run l calls).log
     → InList d a store l calls
 unfolding InList
@@ -139,7 +139,7 @@ offered-before settings store calls p m =
     record {
       given = c.0;
       number = c.1;
-      call = elim (in_list c.0 (Taken c.1) c.2 begin calls c.3) [ inl none ↦ absurd (Memᴰ.not-nil none) | inr call ↦ call ];
+      call = elim (in_list c.0 (Ok c.1) c.2 begin calls c.3) [ inl none ↦ absurd (Memᴰ.not-nil none) | inr call ↦ call ];
       store = c.2;
       entry = c.3;
       pdu = c.4.0;

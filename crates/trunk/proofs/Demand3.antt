@@ -11,6 +11,7 @@ use native.Mathlib.Omega.{arith}
 use Rattle.wire.specs.Bytes.{Bytes}
 use Rattle.pdu.specs.Writing.{written_form, padding_zero}
 use Rattle.pdu.proofs.RoundTrip.{written_form_back}
+use Rattle.station.specs.Answers.{number as station_number}
 use Rattle.station.specs.Runs.{datagram, time}
 use Rattle.station.specs.Hearing.{heard}
 use Rattle.station.specs.Units.{made}
@@ -77,7 +78,7 @@ module _ {station : Station} {near : Near} {store : List ℕ} {far : Far} {log :
       → {o : Offered} {store' : List ℕ}
       → OfferOutcome near store d o store'
       → Stands station o.near store' far (offer_made d o.answer store' ∷ log)
-  after_offer d b (offer_refused n f) = also _ refl (adds_nothing (seen log)) s.holds tt
+  after_offer d b (offer_refused e f) = also _ refl (adds_nothing (seen log)) s.holds tt
   after_offer d b (offer_taken m) =
       let ps : List (List ℕ) = bundle d in
       let qs : List (List ℕ) = map written_form ps in
@@ -95,7 +96,7 @@ module _ {station : Station} {near : Near} {store : List ℕ} {far : Far} {log :
       (i : ℕ) (out : List ℕ) {o : Sending} {out' : List ℕ}
       → SendOutcome near store i out o out'
       → Stands station o.near store far (send_made i o.answer out' ∷ log)
-  after_send i out (send_refused n f) = also _ refl (adds_nothing (seen log)) s.holds tt
+  after_send i out (send_refused e f) = also _ refl (adds_nothing (seen log)) s.holds tt
   after_send i out (send_taken m) =
       let h = s.holds in
       let within = held_met near store i (length out) m in
@@ -113,7 +114,7 @@ module _ {station : Station} {near : Near} {store : List ℕ} {far : Far} {log :
       → {o : Replied}
       → ReplyOutcome near r o
       → Stands station o.near store far (reply_heard r o.answer ∷ log)
-  after_reply r w (reply_refused n f) = also _ refl (adds_nothing (seen log)) s.holds tt
+  after_reply r w (reply_refused e f) = also _ refl (adds_nothing (seen log)) s.holds tt
   after_reply r w (reply_taken m) =
       also _ refl
       (adds_nothing (confirming (seen log) (max (acknowledged log) (number_in r))))
@@ -139,13 +140,13 @@ module _ {station : Station} {near : Near} {store : List ℕ} {far : Far} {log :
       → {o : Arrived} {reply' out' : List ℕ}
       → ArrivalOutcome far r reply out o reply' out'
       → Stands station near store o.far (record_heard r o.answer reply' out' ∷ log)
-  after_arrival r reply out w (arrival_refused n f) = also _ refl (adds_nothing (seen log)) s.holds tt
+  after_arrival r reply out w (arrival_refused e f) = also _ refl (adds_nothing (seen log)) s.holds tt
   after_arrival r reply out w (arrival_delivered m e) =
       let this = arriving s.holds r (s.holds.known r w) (pdu_met r _ _ m) in
       let number : number_in r ≡ count log = e ∙ s.holds.counts.far_count in
       let pdu = take_at (carried_in r) (drop (length (carried_in r)) out) (length (carried_in r)) refl in
       let answered = reply_written (far.count + 1) (drop head_size reply) in
-      let said : ℕ = (heard far.station (carried_in r)).answer in
+      let said : ℕ = station_number (heard far.station (carried_in r)).answer in
       also _ refl
       (adds_delivered (seen log) _ _ _ _ ∙ ap₂ (λ (p q : List ℕ). delivering (seen log) p q (datagram p) said) pdu answered)
       (delivery_keeps s.holds r this e)

@@ -1,5 +1,5 @@
--- What the rules that a call has passed say, for the proofs of the code: the store's size, the kind, the head, the room. Each is read off the
--- first broken rule of the call, which is none.
+-- What the rules of a call say, for the proofs of the code: of each call that begins with the rules on the form, which rule answers; and of a call that has
+-- passed its rules, the size of the store, the room, the numbers. Each is read off the first broken rule of the call.
 -- Assumes nothing.
 use Prim.Native.Nat.{ℕ, ◌+◌, ◌-◌, ◌≤◌, ◌<◌}
 use mathlib.Core.Path.{◌≡◌, refl, sym, ap, ◌∙◌}
@@ -10,19 +10,20 @@ use lib.ListN.{length, take, drop, length-take, length-drop}
 use lib.Dec.{eqb}
 use native.Mathlib.Nat.{add-sub_cancel_left}
 use native.Mathlib.Omega.{arith}
-use borrow.Author.Tests.{eqb-true, eqb-false, ne_eqb, ltb-false, lt-ltb, le-ltb, not-false}
+use borrow.Author.Tests.{eqb-true, eqb-false, ltb-false, not-false}
 use Rattle.wire.specs.Bytes.{splice}
 use Rattle.wire.specs.First.{Refusal, ◌given_when◌, first}
 use Rattle.wire.proofs.ByteLaws.{splice-start}
-use Rattle.wire.proofs.FirstLaws.{unbroken, none_of, first_here, first_next}
+use Rattle.wire.proofs.FirstLaws.{unbroken, none_of}
 use Rattle.wire.proofs.RuleLaws.{not_below, neither}
 use Rattle.trunk.specs.Head.{head_size}
-use Rattle.trunk.specs.Kinds.{load, is_unknown, record_size, longest_pdu, longest_record}
-use Rattle.trunk.specs.Record.{kind_in, number_in, last_number, unknown_kind, wrong_size, is_reply, last_of_all, form_rules, pdu_rules, check_rules}
+use Rattle.trunk.specs.Kinds.{record_size, longest_pdu, longest_record}
+use Rattle.trunk.specs.Record.{number_in, last_number, is_reply, last_of_all, form_rules, pdu_rules, check_rules}
 use Rattle.trunk.specs.Near.{store_size, most_pdus, wrong_store, row_start, row_kind, row_record, offer_rest, offer_rules_of, send_rules, reply_rest}
 use Rattle.trunk.specs.Near.{reply_rules}
 use Rattle.trunk.specs.Far.{room_rules, arrival_rest, arrival_rules, is_next}
 use Rattle.trunk.specs.declared.Near.{Near}
+use Rattle.pdu.proofs.RefusalLaws.{first_then}
 use Rattle.trunk.proofs.KindLaws.{record_small}
 
 -- ---- rules in order
@@ -35,48 +36,28 @@ stop_passes n rest e = go (eqb n 0) refl e
     go true z r = (eqb-true n 0 z, r)
     go false z r = absurd (eqb-false n 0 z r)
 
--- ---- a record's form
-
--- an empty record has no kind to refuse, and is refused by 21
-pub empty_kind : (r : List ℕ) → length r ≡ 0 → unknown_kind r ≡ false
-unfolding unknown_kind
-empty_kind r e = ap (λ (b : Bool). b && is_unknown (load (kind_in r))) (le-ltb 0 (length r) (omega arith))
-
-pub present_kind : (r : List ℕ) → 1 ≤ length r → unknown_kind r ≡ is_unknown (load (kind_in r))
-unfolding unknown_kind
-present_kind r h = ap (λ (b : Bool). b && is_unknown (load (kind_in r))) (lt-ltb 0 (length r) h)
-
-pub never_empty : (r : List ℕ) → length r ≡ 0 → wrong_size r ≡ true
-unfolding wrong_size
-never_empty r e =
-    ap not (ne_eqb (length r) (record_size (kind_in r)) (λ (h : length r ≡ record_size (kind_in r)). omega arith))
-
--- a record of the right form has the length of its kind, so a head, and is no longer than the longest
-pub record Formed (r : List ℕ) : Type 0 where
-  pub head : head_size ≤ length r
-  pub short : length r ≤ longest_record
-
-pub formed : (r : List ℕ) → first (form_rules r) ≡ 0 → Formed r
-unfolding form_rules wrong_size
-formed r e =
-    let (known, (sized, end)) = unbroken (form_rules r) refl e in
-    let exact : length r ≡ record_size (kind_in r) = eqb-true _ _ (not-false _ sized) in
-    record { head = omega arith; short = omega (arith, record_small (kind_in r)) }
-
--- a broken rule on the form, or on the PDU, is the first; where there is none, the rules behind them answer
-pub form_first : (r : List ℕ) (rest : List Refusal) → first (form_rules r) ≢ 0 → first (form_rules r ++ rest) ≡ first (form_rules r)
-form_first r rest h = first_here (form_rules r) rest h
-
-pub form_next : (r : List ℕ) (rest : List Refusal) → first (form_rules r) ≡ 0 → first (form_rules r ++ rest) ≡ first rest
+-- the rules of each call that begins with those on the form: a broken one of these is the first; where there is none, the rules behind them answer
+pub check_then : (r : List ℕ) → first (check_rules r) ≡ cond (eqb (first (form_rules r)) 0) (first (pdu_rules r)) (first (form_rules r))
 unfolding form_rules
-form_next r rest e = first_next (form_rules r) rest refl e
+check_then r = first_then (form_rules r) (pdu_rules r) refl
 
-pub pdu_first : (r : List ℕ) (rest : List Refusal) → first (pdu_rules r) ≢ 0 → first (pdu_rules r ++ rest) ≡ first (pdu_rules r)
-pdu_first r rest h = first_here (pdu_rules r) rest h
+pub reply_then :
+    (near : Near) (r : List ℕ)
+    → first (reply_rules near r) ≡ cond (eqb (first (form_rules r)) 0) (first (reply_rest near r)) (first (form_rules r))
+unfolding form_rules reply_rules
+reply_then near r = first_then (form_rules r) (reply_rest near r) refl
 
-pub pdu_next : (r : List ℕ) (rest : List Refusal) → first (pdu_rules r) ≡ 0 → first (pdu_rules r ++ rest) ≡ first rest
-unfolding pdu_rules
-pdu_next r rest e = first_next (pdu_rules r) rest refl e
+pub arrival_then :
+    (r : List ℕ) (reply_room room : ℕ)
+    → first (arrival_rules r reply_room room)
+    ≡ cond (eqb (first (form_rules r)) 0)
+    (cond (is_reply r) 29 (cond (eqb (first (pdu_rules r)) 0) (first (room_rules reply_room room)) (first (pdu_rules r))))
+    (first (form_rules r))
+unfolding form_rules pdu_rules arrival_rules
+arrival_then r reply_room room =
+    first_then (form_rules r) (arrival_rest r reply_room room) refl
+    ∙ ap (λ (n : ℕ). cond (eqb (first (form_rules r)) 0) (cond (is_reply r) 29 n) (first (form_rules r)))
+    (first_then (pdu_rules r) (room_rules reply_room room) refl)
 
 -- where no rule is broken, neither one on the form, or on the PDU, nor one behind them is
 pub form_none : (r : List ℕ) (rest : List Refusal) → first (form_rules r ++ rest) ≡ 0 → (first (form_rules r) ≡ 0) × (first rest ≡ 0)
@@ -88,13 +69,6 @@ unfolding pdu_rules
 pdu_none r rest e = none_of (pdu_rules r) rest refl e
 
 -- ---- what each call's rules say
-
-pub checked_form : (r : List ℕ) → first (check_rules r) ≡ 0 → Formed r
-checked_form r e = formed r (form_none r (pdu_rules r) e).0
-
-pub reply_form : (near : Near) (r : List ℕ) → first (reply_rules near r) ≡ 0 → Formed r
-unfolding reply_rules
-reply_form near r e = formed r (form_none r (reply_rest near r) e).0
 
 -- an offer that is taken: the store has its size, nothing stops the slice, and its PDUs are few enough for the numbers
 pub record OfferFits (near : Near) (size stop pdus : ℕ) : Type 0 where
@@ -141,9 +115,8 @@ row_copied store out i size room =
     ∙ splice-start (row_record store i) out (rw long room)
     ∙ ap (λ (m : ℕ). row_record store i ++ drop m out) long
 
--- an arrival that is not refused: a head, a PDU that fits the output, and room for both; and the number is not the last
+-- an arrival that is not refused: room for the reply and for the longest PDU; and the number is not the last
 pub record ArrivalFits (r : List ℕ) (reply_room room : ℕ) : Type 0 where
-  pub form : Formed r
   pub reply : head_size ≤ reply_room
   pub output : longest_pdu ≤ room
   pub number : number_in r ≢ last_number
@@ -166,7 +139,6 @@ arrival_fits r reply_room room e =
     let (roomy, end') = unbroken (room_rules reply_room room) refl pdu.1 in
     let space = (neither _ _ (not_below reply_room _) (not_below room _)).0 roomy in
     record {
-      form = formed r form.0;
       reply = space.0;
       output = space.1;
       number = last-not r no_reply pdu.0;

@@ -20,10 +20,12 @@ use Rattle.pdu.specs.Reading.{transmitter_of, signal_of, content, wrong_type, wr
 use Rattle.pdu.specs.Reading.{transmitter_layout, signal_layout, reading_rules, refusal, reading}
 use Rattle.pdu.specs.Writing.{written_form, in_written_form}
 use Rattle.pdu.specs.Words.{word_at}
+use Rattle.station.specs.declared.answers.Answer.{Answer}
+use Rattle.station.specs.declared.answers.Answer.TheVariants.{ClockBack, Entered, Joined, TimePassed, Counted}
 use Rattle.station.specs.Runs.{least, word_of}
 use Rattle.station.specs.Units.{state_of, fresh, settings_of, place_of}
 use Rattle.station.specs.Hearing.{enter, renew, heard_transmitter, other_id, signal_rules as station_rules, labelled, word_saying, message_of, after_j00}
-use Rattle.station.specs.Hearing.{after_timing, after_ppli, heard_message, heard_signal, step as station-step, heard}
+use Rattle.station.specs.Hearing.{after_ppli, heard_message, heard_signal, step as station-step, heard}
 use Rattle.station.specs.Clock.{at_time, clocked}
 use Rattle.station.specs.declared.State.TheVariants.{Fine}
 use Rattle.station.specs.declared.Settings.{Settings}
@@ -37,13 +39,12 @@ use Rattle.trunk.specs.Far.{is_next, count_after, arrival_rules, arrived, reply_
 use Rattle.trunk.specs.Line.{Entry, offer_made, send_made, reply_heard, record_heard, clock_set, Call, offer, send, to_near, to_far, tick}
 use Rattle.trunk.specs.Line.{Line, start, step, run, collect, accepted, acknowledged, written, Allowed, Fair}
 use Rattle.trunk.specs.Demand.{count, Demand3}
-use Rattle.trunk.specs.declared.Offer.{Offer}
-use Rattle.trunk.specs.declared.Offer.TheVariants.{Refused as refused_offer, Taken}
-use Rattle.trunk.specs.declared.Sent.{Sent}
-use Rattle.trunk.specs.declared.Sent.TheVariants.{Refused as refused_send, Size}
-use Rattle.trunk.specs.declared.Reply.{Reply}
-use Rattle.trunk.specs.declared.Reply.TheVariants.{Refused as refused_reply, Acknowledged}
-use Rattle.trunk.specs.declared.Arrival.TheVariants.{Refused as refused_arrival, Delivered, Repeat, Early}
+use Rattle.pdu.specs.Refusals.{named as pdu_named}
+use Rattle.pdu.specs.declared.refusals.Refusal.TheVariants.{Short, NoRoom}
+use Rattle.trunk.specs.Refusals.{Refusal, Pdu, ManyPdus, WindowFull, WrongDirection, NotHeld, named}
+use Rattle.trunk.specs.declared.Arrival.{Arrival}
+use Rattle.trunk.specs.declared.Arrival.TheVariants.{Delivered, Repeat, Early}
+use Rattle.std.specs.Prelude.{Result, Ok, Err}
 use Rattle.trunk.proofs.Demand3.{demand3}
 
 -- ---- a test of fairness
@@ -158,25 +159,19 @@ timing a b =
 
 -- ---- the calls
 
--- what a call answered: a delivery its size and the station's answer
+-- what a call answered
 pub data Said : Type 0 where
-  offer_said : Offer → Said
-  send_said : Sent → Said
-  reply_said : Reply → Said
-  refused_at_far : ℕ → Said
-  delivered_said : ℕ → ℕ → Said
-  repeat_said : Said
-  early_said : Said
-  clock_said : ℕ → Said
+  offer_said : Result ℕ Refusal → Said
+  send_said : Result ℕ Refusal → Said
+  reply_said : Result ℕ Refusal → Said
+  record_said : Result Arrival Refusal → Said
+  clock_said : Answer → Said
 
 unfoldable pub said : Entry → Said
 said (offer_made d a store) = offer_said a
 said (send_made i a out) = send_said a
 said (reply_heard r a) = reply_said a
-said (record_heard r (refused_arrival n) reply out) = refused_at_far n
-said (record_heard r (Delivered size answer) reply out) = delivered_said size answer
-said (record_heard r Repeat reply out) = repeat_said
-said (record_heard r Early reply out) = early_said
+said (record_heard r a reply out) = record_said a
 said (clock_set t a) = clock_said a
 
 -- a send into a buffer, and an arrival at the far end, with room
@@ -199,29 +194,29 @@ record_2 = record_of (head_for 18 2) (timing 0 5)
 -- each call with its answer
 unfoldable pub story : List (Call × Said)
 story =
-    (offer (unit 5 ++ entry-message ++ timing 255 253), offer_said (Taken 0))  -- a bundle of three: numbers 0, 1 and 2
-    ∷ (offer (zeros 11), offer_said (refused_offer 1))
-    ∷ (offer (order ++ zeros 11), offer_said (refused_offer 1))  -- what stands behind the first PDU is none: nothing is taken
-    ∷ (offer order, offer_said (Taken 3))
-    ∷ (offer (orders 9), offer_said (refused_offer 51))
-    ∷ (offer (orders 5), offer_said (refused_offer 24))  -- four rows are free
-    ∷ (sending 1, send_said (Size 73))
-    ∷ (arriving record_1, early_said)  -- number 1 before number 0; its reply is lost
-    ∷ (send 0 (zeros 116), send_said (refused_send 16))
-    ∷ (sending 0, send_said (Size 117))
-    ∷ (arriving record_0, delivered_said 112 40)
-    ∷ (arriving record_0, repeat_said)  -- the same record again
-    ∷ (tick 30, clock_said 46)
-    ∷ (arriving record_1, delivered_said 68 42)  -- both levels are 4: the station is Coarse
-    ∷ (to_near (reply_of 2), reply_said (Acknowledged 2))
-    ∷ (to_near (reply_of 1), reply_said (Acknowledged 2))  -- a late reply
-    ∷ (to_near record_0, reply_said (refused_reply 29))
-    ∷ (sending 0, send_said (refused_send 26))
-    ∷ (sending 2, send_said (Size 65))
-    ∷ (to_far record_2 (zeros 4) (zeros 180), refused_at_far 16)  -- no room for the reply
-    ∷ (arriving record_2, delivered_said 60 47)  -- handed over again, with room: it counts, and the station is Fine; its reply is lost
-    ∷ (sending 3, send_said (Size 65))  -- lost: it never arrives
-    ∷ (tick 20, clock_said 36)
+    (offer (unit 5 ++ entry-message ++ timing 255 253), offer_said (Ok 0))  -- a bundle of three: numbers 0, 1 and 2
+    ∷ (offer (zeros 11), offer_said (Err (Pdu Short)))
+    ∷ (offer (order ++ zeros 11), offer_said (Err (Pdu Short)))  -- what stands behind the first PDU is none: nothing is taken
+    ∷ (offer order, offer_said (Ok 3))
+    ∷ (offer (orders 9), offer_said (Err ManyPdus))
+    ∷ (offer (orders 5), offer_said (Err WindowFull))  -- four rows are free
+    ∷ (sending 1, send_said (Ok 73))
+    ∷ (arriving record_1, record_said (Ok Early))  -- number 1 before number 0; its reply is lost
+    ∷ (send 0 (zeros 116), send_said (Err (Pdu NoRoom)))
+    ∷ (sending 0, send_said (Ok 117))
+    ∷ (arriving record_0, record_said (Ok (Delivered 112 Entered)))
+    ∷ (arriving record_0, record_said (Ok Repeat))  -- the same record again
+    ∷ (tick 30, clock_said TimePassed)
+    ∷ (arriving record_1, record_said (Ok (Delivered 68 Joined)))  -- both levels are 4: the station is Coarse
+    ∷ (to_near (reply_of 2), reply_said (Ok 2))
+    ∷ (to_near (reply_of 1), reply_said (Ok 2))  -- a late reply
+    ∷ (to_near record_0, reply_said (Err WrongDirection))
+    ∷ (sending 0, send_said (Err NotHeld))
+    ∷ (sending 2, send_said (Ok 65))
+    ∷ (to_far record_2 (zeros 4) (zeros 180), record_said (Err (Pdu NoRoom)))  -- no room for the reply
+    ∷ (arriving record_2, record_said (Ok (Delivered 60 Counted)))  -- handed over again, with room: it counts, and the station is Fine; its reply is lost
+    ∷ (sending 3, send_said (Ok 65))  -- lost: it never arrives
+    ∷ (tick 20, clock_said ClockBack)
     ∷ []
 
 abbrev pub calls_of : List (Call × Said) → List Call
@@ -250,14 +245,14 @@ computed :
     × (count after-all.log ≡ 3)
     × (acknowledged after-all.log ≡ 2)
     × (state_of after-all.far.station ≡ Fine)
-unfolding fair allowed among same said story before after-all sending arriving record_0 record_1 record_2 unit entry-message order orders
+unfolding named pdu_named fair allowed among same said story before after-all sending arriving record_0 record_1 record_2 unit entry-message order orders
     stop_of stop_in pdus_in slice_stop bundle bundle_stop stored_all
     signal timing start_of zeros offered store_after offer_rules_of sent sent_out send_rules replied reply_rules arrived is_next count_after reply_after
     output_after arrival_rules ticked record_of load unknown_kind wrong_size is_reply last_of_all wrong_carried form_rules pdu_rules wrong_version
     wrong_type wrong_length wrong_fixed wrong_records wrong_status wrong_sync wrong_bits network_rules live_rules body_rules reading_rules refusal content
     reading transmitter_of signal_of written_form in_written_form access_rules slot_rules inner_rules body_slots bytes_of start_rules transmitter_layout
     signal_layout word_at
-    least word_of fresh made place_of enter renew heard_transmitter other_id station_rules labelled word_saying message_of after_j00 after_timing after_ppli
+    least word_of fresh made place_of enter renew heard_transmitter other_id station_rules labelled word_saying message_of after_j00 after_ppli
     heard_message heard_signal station-step heard at_time clocked
 computed = (refl, refl, refl, refl, refl, refl)
 

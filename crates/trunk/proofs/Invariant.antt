@@ -13,15 +13,17 @@ use lib.Seq.{length-sets, take_at, take-suc, take-append-le, get_or-append_seam}
 use lib.Dec.{ltb}
 use native.Mathlib.Numerals.{add-one}
 use native.Mathlib.Omega.{arith}
-use borrow.Author.Tests.{ltb-true, ltb-false, eqb-false}
+use borrow.Author.Tests.{ltb-true, ltb-false, not-false}
 use Rattle.wire.specs.Bytes.{Bytes}
 use Rattle.pdu.specs.Reading.{reading}
 use Rattle.pdu.specs.Writing.{written_form}
 use Rattle.pdu.specs.declared.Reading.{Reading}
+use Rattle.station.specs.Answers.{number as station_number}
 use Rattle.station.specs.Runs.{Call as StationCall, datagram, time, called, after, answers}
 use Rattle.station.specs.Hearing.{heard}
 use Rattle.station.specs.declared.Station.{Station}
-use Rattle.trunk.specs.Kinds.{record_size, reply_kind, kind_of, no_kind}
+use Rattle.std.specs.Prelude.{IsSome}
+use Rattle.trunk.specs.Kinds.{record_size, reply_kind, kind_of, offered_kind}
 use Rattle.trunk.specs.Record.{head_for, record_of, reply_of, kind_in, number_in, carried_in, last_number}
 use Rattle.trunk.specs.Near.{rows, row_size, store_size, row_start, row_kind, row_record, offer_record, stored, stored_all, more_accepted}
 use Rattle.trunk.specs.Near.{acknowledged_after, acknowledging}
@@ -156,11 +158,11 @@ module _ {station : Station} {near : Near} {store : List ℕ} {far : Far} {v : S
   small i l = omega (arith, h.counts.few)
 
   -- the length of an accepted PDU's record
-  record_length : (i : ℕ) → i < length v.pdus → length (record_in v.pdus i) ≡ record_size (kind_of (reading (get_or v.pdus i [])))
+  record_length : (i : ℕ) → i < length v.pdus → length (record_in v.pdus i) ≡ record_size (offered_kind (reading (get_or v.pdus i [])))
   record_length i l = pdu_length i (get_or v.pdus i []) (h.held.carried i l) (small i l)
 
   pub record_fits : (i : ℕ) → i < length v.pdus → length (record_in v.pdus i) ≤ row_size
-  record_fits i l = omega (arith, record_length i l, record_small (kind_of (reading (get_or v.pdus i []))))
+  record_fits i l = omega (arith, record_length i l, record_small (offered_kind (reading (get_or v.pdus i []))))
 
   -- one more record written
   pub writes : (r : List ℕ) → Known v.pdus (length v.out) r → Holds station near store far (writing v r)
@@ -176,7 +178,7 @@ module _ {station : Station} {near : Near} {store : List ℕ} {far : Far} {v : S
 
   -- ---- one PDU of an offer
 
-  module _ (d : List ℕ) (b : Bytes d) (k : kind_of (reading d) ≢ no_kind) (m : OneFits near store) where
+  module _ (d : List ℕ) (b : Bytes d) (k : IsSome (kind_of (reading d))) (m : OneFits near store) where
     form : Carried (written_form d) × (reading (written_form d) ≡ reading d)
     form = carried_form d b k
 
@@ -186,13 +188,13 @@ module _ {station : Station} {near : Near} {store : List ℕ} {far : Far} {v : S
     -- what it writes is the new PDU's record
     new_record : offer_record near.accepted d ≡ record_for (length v.pdus) (written_form d)
     new_record =
-        ap₂ (λ (r : Reading) (n : ℕ). record_of (head_for (kind_of r) n) (written_form d)) (sym form.1) h.counts.near_accepted
+        ap₂ (λ (r : Reading) (n : ℕ). record_of (head_for (offered_kind r) n) (written_form d)) (sym form.1) h.counts.near_accepted
         ∙ record_for_lem (length v.pdus) (written_form d) form.0.kind
 
     new_fits : length (offer_record near.accepted d) ≤ row_size
     new_fits =
         rw (new_record, pdu_length (length v.pdus) (written_form d) form.0 room)
-        (omega (arith, record_small (kind_of (reading (written_form d)))))
+        (omega (arith, record_small (offered_kind (reading (written_form d)))))
 
     stored_record : offer_record near.accepted d ≡ record_in (v.pdus ++ (written_form d ∷ [])) (length v.pdus)
     stored_record = new_record ∙ ap (record_for (length v.pdus)) (sym (new_pdu v.pdus (written_form d)))
@@ -289,7 +291,7 @@ module _ {station : Station} {near : Near} {store : List ℕ} {far : Far} {v : S
 
   module _ (i : ℕ) (held : v.confirmed ≤ i) (l : i < length v.pdus) where
     -- the row's kind is the PDU's, so what is sent is the record
-    pub held_kind : row_kind store i ≡ kind_of (reading (get_or v.pdus i []))
+    pub held_kind : row_kind store i ≡ offered_kind (reading (get_or v.pdus i []))
     held_kind =
         row_kind_lem store i (record_in v.pdus i) (omega (arith, record_length i l)) (h.held.stored i held l)
         ∙ pdu_kind i (get_or v.pdus i []) (h.held.carried i l) (small i l)
@@ -373,13 +375,13 @@ module _ {station : Station} {near : Near} {store : List ℕ} {far : Far} {v : S
   -- one more call on the far station
   station_next :
       (c : StationCall)
-      → Played station (called far.station c).station (v.calls ++ (c ∷ [])) (v.said ++ ((called far.station c).answer ∷ []))
+      → Played station (called far.station c).station (v.calls ++ (c ∷ [])) (v.said ++ (station_number (called far.station c).answer ∷ []))
   station_next c =
       let p = h.played in
       record {
         stands = ap (λ (s : Station). (called s c).station) p.stands ∙ sym (after_more station v.calls c);
         answered =
-            ap₂ (λ (l : List ℕ) (s : Station). l ++ ((called s c).answer ∷ [])) p.answered p.stands
+            ap₂ (λ (l : List ℕ) (s : Station). l ++ (station_number (called s c).answer ∷ [])) p.answered p.stands
             ∙ sym (answers_more station v.calls c);
       }
 
@@ -389,7 +391,7 @@ module _ {station : Station} {near : Near} {store : List ℕ} {far : Far} {v : S
       → Arriving v.pdus r
       → number_in r ≡ far.count
       → Holds station near store (delivered (far.count + 1) far.station (carried_in r)).far
-      (delivering v (carried_in r) (reply_of (far.count + 1)) (datagram (carried_in r)) (heard far.station (carried_in r)).answer)
+      (delivering v (carried_in r) (reply_of (far.count + 1)) (datagram (carried_in r)) (station_number (heard far.station (carried_in r)).answer))
   delivery_keeps r a e =
       let c = h.counts in
       let k : ℕ = length v.out in
@@ -424,7 +426,7 @@ module _ {station : Station} {near : Near} {store : List ℕ} {far : Far} {v : S
 
   pub clock_keeps :
       (t : ℕ)
-      → Holds station near store (ticked far t).far (timing v (time t) (ticked far t).answer)
+      → Holds station near store (ticked far t).far (timing v (time t) (station_number (ticked far t).answer))
   unfolding ticked
   clock_keeps t =
       record { counts = h.counts; held = h.held; known = h.known; recorded = h.recorded; in_order = h.in_order; played = station_next (time t) }
@@ -459,7 +461,7 @@ bundle-keeps {station} {near} {store} {far} {v} h [] bytes all whole numbers fre
     subst₂ (λ (n : Near) (s : Seen). Holds station n store far s) (sym (more_none near)) (sym (accepts_none v)) h
 bundle-keeps {station} {near} {store} {far} {v} h (p ∷ ps) (b, bytes) (one, all) whole numbers free =
     let fits : OneFits near store = record { whole = whole; more = omega arith; free = omega arith } in
-    let kind = eqb-false _ _ ((type_says p one.taken).1 one.carried) in
+    let kind = not-false _ ((type_says p one.taken).1 one.carried) in
     let full = length-sets store (row_start near.accepted) (offer_record near.accepted p) ∙ whole in
     let qs : List (List ℕ) = map written_form ps in
     let rs : List (List ℕ) = records_from (near.accepted + 1) qs in

@@ -8,12 +8,13 @@ use mathlib.Core.Bool.{Bool, true, false, ◌&&◌, true≢false, false≢true}
 use mathlib.Core.List.{List, [], ◌∷◌}
 use lib.ListN.{length, get_or, get_or-eq_default}
 use lib.Dec.{eqb, leb}
+use Rattle.std.specs.Prelude.{Option, Some, option_map, unwrap_or, is_none}
 use native.Mathlib.Omega.{arith}
 use borrow.Author.Tests.{eqb-true, eqb-false, ne_eqb, leb-true, leb-false, le-leb}
 use Rattle.wire.proofs.TableLaws.{both_true}
 use Rattle.trunk.specs.Head.{head_size}
 use Rattle.trunk.specs.Kinds.{KindRow, signals, transmitters, interrogations, timing_replies, replies, in_row, load, load_size, record_size}
-use Rattle.trunk.specs.Kinds.{longest_pdu, longest_record, is_unknown, is_nothing}
+use Rattle.trunk.specs.Kinds.{carried_size, longest_pdu, longest_record, is_reply_load}
 use Rattle.trunk.specs.Plain.{KnownKind, KindCarries, signal, transmitter, ask, answer, reply, none, signal_lengths, plain_length, ReplyKind}
 use Rattle.trunk.specs.declared.Load.{Load}
 use Rattle.trunk.specs.declared.Load.TheVariants.{Words}
@@ -29,18 +30,10 @@ outside row kind out = by (leb row.first kind) (leb kind row.last) refl refl
     by true false e f = refl
     by false b e f = refl
 
--- a kind that is none of those named is unknown
-pub unlisted : {kind : ℕ} → (kind ≤ 12 → ⊥) → kind ≢ 16 → kind ≢ 17 → kind ≢ 18 → kind ≢ 32 → ¬ KnownKind kind
-unlisted over a b c d (inl few) = over few
-unlisted over a b c d (inr (inl same)) = a same
-unlisted over a b c d (inr (inr (inl same))) = b same
-unlisted over a b c d (inr (inr (inr (inl same)))) = c same
-unlisted over a b c d (inr (inr (inr (inr same)))) = d same
-
 -- the table says what the plain statement says
-pub load_is : {kind : ℕ} {l : Load} → KindCarries kind l → load kind ≡ l
+pub load_is : {kind : ℕ} {l : Option Load} → KindCarries kind l → load kind ≡ l
 unfolding load
-load_is {kind} (signal few) = rw (le-leb 0 kind (omega arith), le-leb kind _ few) (ap Words (omega arith))
+load_is {kind} (signal few) = rw (le-leb 0 kind (omega arith), le-leb kind _ few) (ap (λ (n : ℕ). Some (Words n)) (omega arith))
 load_is (transmitter e) = ap load e
 load_is (ask e) = ap load e
 load_is (answer e) = ap load e
@@ -77,7 +70,7 @@ equals m n = by (eqb m n) refl
 known-or-not : (kind : ℕ) → KnownKind kind ⊎ ¬ KnownKind kind
 known-or-not kind = or-not (up_to kind _) (or-not (equals kind _) (or-not (equals kind _) (or-not (equals kind _) (equals kind _))))
 
-stated : (kind : ℕ) → KnownKind kind ⊎ ¬ KnownKind kind → (l : Load) × KindCarries kind l
+stated : (kind : ℕ) → KnownKind kind ⊎ ¬ KnownKind kind → (l : Option Load) × KindCarries kind l
 stated kind (inl (inl few)) = (_, signal few)
 stated kind (inl (inr (inl same))) = (_, transmitter same)
 stated kind (inl (inr (inr (inl same)))) = (_, ask same)
@@ -91,10 +84,10 @@ carries kind = let s = stated kind (known-or-not kind) in subst (KindCarries kin
 -- ---- what follows
 
 -- 20: the table has the kinds that 01 names
-pub known_says : (kind : ℕ) → (is_unknown (load kind) ≡ false) ↔ KnownKind kind
+pub known_says : (kind : ℕ) → (is_none (load kind) ≡ false) ↔ KnownKind kind
 known_says kind = by (carries kind)
   where
-    by : {l : Load} → KindCarries kind l → (is_unknown l ≡ false) ↔ KnownKind kind
+    by : {l : Option Load} → KindCarries kind l → (is_none l ≡ false) ↔ KnownKind kind
     by (signal few) = (λ e. inl few, λ k. refl)
     by (transmitter same) = (λ e. inr (inl same), λ k. refl)
     by (ask same) = (λ e. inr (inr (inl same)), λ k. refl)
@@ -103,10 +96,10 @@ known_says kind = by (carries kind)
     by (none unknown) = (λ e. absurd (true≢false e), λ k. absurd (unknown k))
 
 -- 29: one kind is a reply's, and no other
-pub reply_says_lem : (kind : ℕ) → (is_nothing (load kind) ≡ true) ↔ ReplyKind kind
+pub reply_says_lem : (kind : ℕ) → (is_reply_load (load kind) ≡ true) ↔ ReplyKind kind
 reply_says_lem kind = by (carries kind)
   where
-    by : {l : Load} → KindCarries kind l → (is_nothing l ≡ true) ↔ ReplyKind kind
+    by : {l : Option Load} → KindCarries kind l → (is_reply_load l ≡ true) ↔ ReplyKind kind
     by (signal few) = (λ e. absurd (false≢true e), λ same. absurd (omega arith))
     by (transmitter is) = (λ e. absurd (false≢true e), λ same. absurd (omega arith))
     by (ask is) = (λ e. absurd (false≢true e), λ same. absurd (omega arith))
@@ -119,14 +112,14 @@ denied : {P : Type 0} (b : Bool) → (b ≡ true) ↔ P → (b ≡ false) ↔ ¬
 denied true h = (λ e. absurd (true≢false e), λ n. absurd (n (h.0 refl)))
 denied false h = (λ e p. false≢true (h.1 p), λ n. refl)
 
-pub no-reply_says : (kind : ℕ) → (is_nothing (load kind) ≡ false) ↔ ¬ ReplyKind kind
+pub no-reply_says : (kind : ℕ) → (is_reply_load (load kind) ≡ false) ↔ ¬ ReplyKind kind
 no-reply_says kind = denied _ (reply_says_lem kind)
 
 -- a load is no longer than the longest PDU, so a record no longer than the longest record
-pub load_small : (kind : ℕ) → load_size (load kind) ≤ longest_pdu
+pub load_small : (kind : ℕ) → carried_size kind ≤ longest_pdu
 load_small kind = by (carries kind)
   where
-    by : {l : Load} → KindCarries kind l → load_size l ≤ longest_pdu
+    by : {l : Option Load} → KindCarries kind l → unwrap_or (option_map load_size l) 0 ≤ longest_pdu
     by (signal few) = omega arith
     by (transmitter same) = omega arith
     by (ask same) = omega arith
@@ -153,7 +146,7 @@ pub plain_length_lem : (kind : ℕ) → record_size kind ≡ plain_length kind
 unfolding matches
 plain_length_lem kind = by (carries kind)
   where
-    by : {l : Load} → KindCarries kind l → head_size + load_size l ≡ plain_length kind
+    by : {l : Option Load} → KindCarries kind l → head_size + unwrap_or (option_map load_size l) 0 ≡ plain_length kind
     by (signal few) = sym (matches_at (λ (n : ℕ). head_size + load_size (Words n)) signal_lengths refl kind _ (omega arith))
     by (transmitter same) = rw same
     by (ask same) = rw same

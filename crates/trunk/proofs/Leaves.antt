@@ -3,19 +3,19 @@
 -- Assumes nothing.
 use Prim.Native.Nat.{ℕ, ◌+◌}
 use mathlib.Core.Path.{◌≡◌, refl, sym, ap, ap₂, subst, subst₂, ◌∙◌}
-use mathlib.Core.Logic.{◌≢◌}
 use mathlib.Core.List.{List, [], ◌∷◌, ◌++◌}
 use lib.ListN.{length, take, drop}
 use lib.Seq.{length-sets, sets-eq}
 use native.Mathlib.Omega.{arith}
-use borrow.Author.Tests.{eqb-false}
+use borrow.Author.Tests.{not-false}
 use Rattle.wire.specs.Bytes.{num, Bytes}
 use Rattle.wire.specs.Rules.{Met}
 use Rattle.pdu.specs.Reading.{reading}
 use Rattle.pdu.specs.Writing.{written_form, padding_zero}
 use Rattle.pdu.proofs.RoundTrip.{written_form_back}
 use Rattle.station.specs.declared.Settings.{Settings}
-use Rattle.trunk.specs.Kinds.{kind_of, no_kind}
+use Rattle.std.specs.Prelude.{IsSome}
+use Rattle.trunk.specs.Kinds.{kind_of, offered_kind}
 use Rattle.trunk.specs.Head.{head_size}
 use Rattle.trunk.specs.Record.{head_for, reply_of}
 use Rattle.trunk.specs.Bundle.{bundle_stop, bundle}
@@ -47,13 +47,13 @@ fresh settings = record { accepted = refl; acknowledged = refl; count = refl; st
 -- ---- offering
 
 module _ (number : ℕ) (p : List ℕ) (one : OnePdu p) where
-  carried : kind_of (reading p) ≢ no_kind
-  carried = eqb-false _ _ ((type_says p one.taken).1 one.carried)
+  carried : IsSome (kind_of (reading p))
+  carried = not-false _ ((type_says p one.taken).1 one.carried)
 
   -- what is written of a PDU is kind, number, and its bytes with padding zero
   plain_offer_lem : offer_record number p ≡ record_with (plain_kind (reading p)) number (padding_zero p)
   plain_offer_lem =
-      record_plain (kind_of (reading p)) number (written_form p) (carried_kind p carried).byte
+      record_plain (offered_kind (reading p)) number (written_form p) (carried_kind p carried).byte
       ∙ ap₂ (λ (k : ℕ) (w : List ℕ). record_with k number w) (plain_kind_lem p carried) (written_form_back p one.taken)
 
   plain_row_lem :
@@ -61,7 +61,7 @@ module _ (number : ℕ) (p : List ℕ) (one : OnePdu p) where
       → length store ≡ store_size
       → stored number store p ≡ overwritten (row_start number) (record_with (plain_kind (reading p)) number (padding_zero p)) store
   plain_row_lem store whole =
-      let short = record_short (head_for (kind_of (reading p)) number) p carried in
+      let short = record_short (head_for (offered_kind (reading p)) number) p carried in
       sets-eq (offer_record number p) store (row_start number) (omega (arith, short))
       ∙ ap (λ (r : List ℕ). overwritten (row_start number) r store) plain_offer_lem
 
@@ -93,7 +93,7 @@ offer_leaves near store d pdus left w met =
     all_met = subst₂ (λ (n : ℕ) (ps : List (List ℕ)). Met (plain_offer near store n (length ps))) same.stop same.pdus met
 
     by : {o : Offered} {s : List ℕ} → OfferOutcome near store d o s → OfferLeaves near store (bundle d) o.near s
-    by (offer_refused n f) = absurd (clash _ (offer-verdict near store (bundle_stop d) (length (bundle d))) n f all_met)
+    by (offer_refused e f) = absurd (clash _ (offer-verdict near store (bundle_stop d) (length (bundle d))) _ f all_met)
     by (offer_taken x) =
         record {
           accepted = refl;
@@ -110,7 +110,7 @@ pub send_leaves :
 send_leaves near store i out met = by (send_outcome near store i out)
   where
     by : {o : Sending} {s : List ℕ} → SendOutcome near store i out o s → SendLeaves near store i out o.near s
-    by (send_refused n f) = absurd (clash (plain_send near store i (length out)) (send-verdict near store i (length out)) n f met)
+    by (send_refused e f) = absurd (clash (plain_send near store i (length out)) (send-verdict near store i (length out)) _ f met)
     by (send_taken x) =
         record {
           near_same = refl;
@@ -123,7 +123,7 @@ pub reply_leaves : (near : Near) (r : List ℕ) → Met (plain_reply near r) →
 reply_leaves near r met = by (reply_outcome near r)
   where
     by : {o : Replied} → ReplyOutcome near r o → ReplyLeaves near r o.near
-    by (reply_refused n f) = absurd (clash (plain_reply near r) (reply_verdict near r) n f met)
+    by (reply_refused e f) = absurd (clash (plain_reply near r) (reply_verdict near r) _ f met)
     by (reply_taken x) = record { accepted = refl; acknowledged = after_is_max near.acknowledged (num 4 1 r) }
 
 -- ---- a record at the far end
@@ -143,8 +143,8 @@ arrive_leaves far r reply out b met = by (arrival_outcome far r reply out b)
     with_reply n = ap (λ (a : List ℕ). a ++ drop 5 reply) (reply_plain n)
 
     by : {o : Arrived} {s t : List ℕ} → ArrivalOutcome far r reply out o s t → ArriveLeaves far r reply out o.far s t
-    by (arrival_refused n f) =
-        absurd (clash (plain_arrival r (length reply) (length out)) (arrival_verdict r b (length reply) (length out)) n f met)
+    by (arrival_refused e f) =
+        absurd (clash (plain_arrival r (length reply) (length out)) (arrival_verdict r b (length reply) (length out)) _ f met)
     by (arrival_delivered x same) =
         record {
           next = λ e.

@@ -1,4 +1,5 @@
 -- Laws and theorems of the trunk that belong to no one function.
+pub mod RefusalLaws
 pub mod KindLaws
 pub mod RecordLaws
 pub mod BundleLaws

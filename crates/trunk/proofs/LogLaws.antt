@@ -4,6 +4,7 @@
 use Prim.Native.Nat.{ℕ}
 use mathlib.Core.Path.{◌≡◌, refl, ap}
 use mathlib.Core.List.{List, [], ◌∷◌, ◌++◌, append-nil, append_assoc}
+use Rattle.station.specs.Answers.{number as station_number}
 use Rattle.station.specs.Runs.{Call as StationCall, called, after, answers}
 use Rattle.station.specs.declared.Station.{Station}
 use Rattle.trunk.specs.Line.{Entry, accepted, put_out, acknowledged, written, events, station_said}
@@ -177,6 +178,6 @@ after_more s (x ∷ cs) c = after_more (called s x).station cs c
 
 pub answers_more :
     (s : Station) (cs : List StationCall) (c : StationCall)
-    → answers s (cs ++ (c ∷ [])) ≡ answers s cs ++ ((called (after s cs) c).answer ∷ [])
+    → answers s (cs ++ (c ∷ [])) ≡ answers s cs ++ (station_number (called (after s cs) c).answer ∷ [])
 answers_more s [] c = refl
-answers_more s (x ∷ cs) c = ap (λ (l : List ℕ). (called s x).answer ∷ l) (answers_more (called s x).station cs c)
+answers_more s (x ∷ cs) c = ap (λ (l : List ℕ). station_number (called s x).answer ∷ l) (answers_more (called s x).station cs c)

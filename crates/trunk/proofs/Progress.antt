@@ -7,6 +7,7 @@ use mathlib.Core.Path.{◌≡◌, refl, sym, ap, subst, ◌∙◌}
 use mathlib.Core.List.{List, [], Memᴰ}
 use lib.ListN.{length, get_or, take, drop}
 use native.Mathlib.Omega.{arith}
+use Rattle.std.specs.Prelude.{Ok}
 use Rattle.wire.specs.Bytes.{Bytes}
 use Rattle.wire.specs.First.{first}
 use Rattle.station.specs.declared.Station.{Station}
@@ -19,7 +20,6 @@ use Rattle.trunk.specs.Line.{record_heard, written_by}
 use Rattle.trunk.specs.Plain.{KnownKind}
 use Rattle.trunk.specs.declared.Near.{Near}
 use Rattle.trunk.specs.declared.Far.{Far}
-use Rattle.trunk.specs.declared.Sent.TheVariants.{Size}
 use Rattle.trunk.specs.declared.Arrived.{Arrived}
 use Rattle.trunk.proofs.KindLaws.{known_says, no-reply_says, plain_length_lem}
 use Rattle.trunk.proofs.RecordLaws.{carried_kind, pdu_number, pdu_sound, reply_sound, reply_written}
@@ -45,7 +45,7 @@ module _ {station : Station} {near : Near} {store : List ℕ} {far : Far} {v : S
       → v.confirmed ≤ i
       → i < length v.pdus
       → row_size ≤ length out
-      → ((sent near store i (length out)).answer ≡ Size (record_size (row_kind store i)))
+      → ((sent near store i (length out)).answer ≡ Ok (record_size (row_kind store i)))
       × (take (record_size (row_kind store i)) (sent_out near store i out) ≡ record_in v.pdus i)
   sent_next i out held l room =
       let kind = carried_kind (get_or v.pdus i []) (h.held.carried i l).kind in
@@ -94,8 +94,8 @@ module _ {station : Station} {near : Near} {store : List ℕ} {far : Far} {v : S
           {o : Arrived} {reply' out' : List ℕ}
           → ArrivalOutcome far (record_in v.pdus i) reply out o reply' out'
           → Replied v.pdus (length v.out) i o reply' out'
-      by (arrival_refused n f) =
-          let x = ((arrival_verdict (record_in v.pdus i) bytes (length reply) (length out)).some n).1 f in
+      by (arrival_refused e f) =
+          let x = ((arrival_verdict (record_in v.pdus i) bytes (length reply) (length out)).some _).1 f in
           absurd (x.1 (sym x.0 ∙ passes))
       by (arrival_delivered m e) =
           let reply_is = reply_written (far.count + 1) (drop head_size reply) in

@@ -9,6 +9,7 @@ use lib.ListN.{length, drop}
 use lib.Dec.{eqb, ltb}
 use native.Mathlib.Omega.{arith}
 use Rattle.wire.specs.First.{first}
+use Rattle.station.specs.Answers.{number as station_number}
 use Rattle.station.specs.Units.{clock_of}
 use Rattle.station.specs.Clock.{clocked}
 use Rattle.station.specs.declared.Station.{Station}
@@ -105,17 +106,17 @@ unfolding output_after
 output_kept far r reply_room out e =
     ap (λ (b : Bool). cond b (cond (is_next far.count (number_in r)) (carried_in r ++ drop (length (carried_in r)) out) out) out) e
 
-station_kept : (s : Station) (t : ℕ) → (clocked s t).answer ≡ 36 → (clocked s t).station ≡ s
+station_kept : (s : Station) (t : ℕ) → station_number (clocked s t).answer ≡ 36 → (clocked s t).station ≡ s
 unfolding clocked
 station_kept s t = by (ltb t (clock_of s)) refl
   where
-    by : (b : Bool) → ltb t (clock_of s) ≡ b → (clocked s t).answer ≡ 36 → (clocked s t).station ≡ s
+    by : (b : Bool) → ltb t (clock_of s) ≡ b → station_number (clocked s t).answer ≡ 36 → (clocked s t).station ≡ s
     by true e x = rw e
     by false e x =
         let never : ◌≡◌ {A = ℕ} 46 36 = rw e at x in
         absurd (omega arith)
 
-clock_keeps : (far : Far) (t : ℕ) → (ticked far t).answer ≡ 36 → (ticked far t).far ≡ far
+clock_keeps : (far : Far) (t : ℕ) → station_number (ticked far t).answer ≡ 36 → (ticked far t).far ≡ far
 unfolding ticked
 clock_keeps far t x = ap (λ (s : Station). record { count = far.count; station = s }) (station_kept far.station t x)
 

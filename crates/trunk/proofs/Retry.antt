@@ -14,6 +14,8 @@ use native.Mathlib.Omega.{arith}
 use borrow.Author.Tests.{ltb-true, ltb-false}
 use Rattle.station.specs.declared.Station.{Station}
 use Rattle.station.specs.declared.Settings.{Settings}
+use Rattle.std.specs.Prelude.{Result, Ok}
+use Rattle.trunk.specs.Refusals.{Refusal}
 use Rattle.trunk.specs.Head.{head_size}
 use Rattle.trunk.specs.Kinds.{longest_pdu}
 use Rattle.trunk.specs.Near.{row_size, sent, sent_out, replied}
@@ -21,8 +23,6 @@ use Rattle.trunk.specs.Line.{send_made, Call, send, Line, start, step, run, acce
 use Rattle.trunk.specs.Line.{written_by, Fair}
 use Rattle.trunk.specs.Demand.{count}
 use Rattle.trunk.specs.Retries.{round, after_round, rounds, Through}
-use Rattle.trunk.specs.declared.Sent.{Sent}
-use Rattle.trunk.specs.declared.Sent.TheVariants.{Size}
 use Rattle.trunk.proofs.Progress.{sent_next, replied_next, acknowledged_next}
 use Rattle.trunk.proofs.Demand3.{StandsAt, run_stands, start_stands}
 
@@ -33,8 +33,8 @@ record Further (l : Line) (calls : List Call) : Type 0 where
   further : l.near.acknowledged < (run l calls).near.acknowledged
 
 -- what a send wrote, by the size answered
-just_sent : (i : ℕ) {n : ℕ} {a : Sent} {r : List ℕ} (out : List ℕ) → a ≡ Size n → take n out ≡ r → Memᴰ r (written_by (send_made i a out))
-just_sent i {r} out e same = subst (λ (x : Sent). Memᴰ r (written_by (send_made i x out))) (sym e) (Memᴰ.head (sym same))
+just_sent : (i : ℕ) {n : ℕ} {a : Result ℕ Refusal} {r : List ℕ} (out : List ℕ) → a ≡ Ok n → take n out ≡ r → Memᴰ r (written_by (send_made i a out))
+just_sent i {r} out e same = subst (λ (x : Result ℕ Refusal). Memᴰ r (written_by (send_made i x out))) (sym e) (Memᴰ.head (sym same))
 
 -- where nothing is held, everything accepted is acknowledged and put out
 at_rest : {station : Station} (l : Line) → StandsAt station l → l.near.accepted ≤ l.near.acknowledged → Through l []

@@ -5,8 +5,8 @@ use Prim.Native.Nat.{ℕ, ◌+◌, ◌≤◌, ◌<◌}
 use mathlib.Core.Path.{◌≡◌, refl, sym, ap, ◌∙◌}
 use mathlib.Core.Logic.Iff
 use mathlib.Core.Logic.{◌↔◌, ◌≢◌, inl, inr}
-use mathlib.Core.Bool.{Bool, true, false, not, true≢false}
-use mathlib.Core.List.{List, ◌∷◌}
+use mathlib.Core.Bool.{Bool, true, false, cond, not, true≢false}
+use mathlib.Core.List.{List, [], ◌∷◌}
 use lib.ListN.{length}
 use lib.Dec.{eqb}
 use native.Mathlib.Omega.{arith}
@@ -19,6 +19,9 @@ use Rattle.wire.proofs.RuleLaws.{equal, at_most, not_below, negated, both, neith
 use Rattle.wire.specs.Rules.{Verdict}
 use Rattle.trunk.specs.Head.{head_size}
 use Rattle.trunk.specs.Kinds.{longest_pdu, reply_kind}
+use Rattle.std.specs.Prelude.{Ok}
+use Rattle.trunk.specs.declared.Checked.TheVariants.{Reply, Pdu}
+use Rattle.trunk.specs.Record.{number_in, taken, checked_says}
 use Rattle.trunk.specs.Record.{kind_in, carried_in, unknown_kind, wrong_size, is_reply, last_of_all, wrong_carried, form_rules, pdu_rules, check_rules}
 use Rattle.trunk.specs.Near.{wrong_store, no_rows, offer_rules_of, is_held, send_rules, reply_rules}
 use Rattle.trunk.specs.Far.{lacks_room, arrival_rules}
@@ -54,6 +57,18 @@ pub reply_kind_lem : (r : List ℕ) → is_reply r ≡ true → kind_in r ≡ re
 unfolding is_reply
 reply_kind_lem r = (reply_says_lem (num 1 0 r)).0
 
+-- what a record says that is taken
+pub taken_says : (r : List ℕ) → checked_says (Ok (taken r)) ≡ 0 ∷ kind_in r ∷ number_in r ∷ length r ∷ []
+taken_says r = by (is_reply r) refl
+  where
+    by :
+        (b : Bool)
+        → is_reply r ≡ b
+        → checked_says (Ok (cond b (Reply (number_in r) (length r)) (Pdu (kind_in r) (number_in r) (length r))))
+        ≡ 0 ∷ kind_in r ∷ number_in r ∷ length r ∷ []
+    by true e = ap (λ (k : ℕ). 0 ∷ k ∷ number_in r ∷ length r ∷ []) (sym (reply_kind_lem r e))
+    by false e = refl
+
 is_pdu_says : (r : List ℕ) → (is_reply r ≡ false) ↔ ¬ ReplyKind (num 1 0 r)
 unfolding is_reply
 is_pdu_says r = no-reply_says (num 1 0 r)
@@ -66,7 +81,7 @@ last_says r h = rw ((is_pdu_says r).1 h) (differs _ _)
 wrong_says : (r : List ℕ) → Bytes r → ¬ ReplyKind (num 1 0 r) → (wrong_carried r ≡ false) ↔ CarriedRule r
 unfolding wrong_carried
 wrong_says r b h =
-    rw ((is_pdu_says r).1 h) (carried_says_lem (carried_in r) (num 1 0 r) (bytes_drop head_size r b) (omega (arith, b 0)))
+    rw ((is_pdu_says r).1 h) (carried_says_lem (carried_in r) (num 1 0 r) (bytes_drop head_size r b))
 
 held_says : (near : Near) (i : ℕ) → (not (is_held near i) ≡ false) ↔ ((near.acknowledged ≤ i) × (i < near.accepted))
 held_says near i = negated _ (both _ _ (at_most _ _) (ltb-true _ _, lt-ltb _ _))
@@ -157,7 +172,7 @@ check-verdict r b =
     (kind_says r
     then λ kind. length_says r
     then λ size. if_so _ _ (pdu_says r) (differs _ _)
-    then λ last. if_so _ _ (pdu_says r) (carried_says_lem (carried_in r) (num 1 0 r) (bytes_drop head_size r b) (omega (arith, b 0)))
+    then λ last. if_so _ _ (pdu_says r) (carried_says_lem (carried_in r) (num 1 0 r) (bytes_drop head_size r b))
     then λ carried. done)
 
 pub arrival_verdict :

@@ -1,13 +1,13 @@
--- A slice walked place by place, for the proofs of the code: one PDU further (`onward`), where it stops (`halted`) and where it ends (`ended`). By the
+-- A slice walked from the front, for the proofs of the code: one PDU further (`onward`), and where it ends (`ended`). By the
 -- laws of one turn of the walk.
 -- Assumes nothing.
-use Prim.Native.Nat.{ℕ, ◌+◌, ◌-◌, ◌≤◌, ◌<◌}
+use Prim.Native.Nat.{ℕ, ◌-◌, ◌≤◌, ◌<◌}
 use mathlib.Core.Path.{◌≡◌, refl, sym, ap, ◌∙◌}
-use mathlib.Core.Logic.{◌≢◌}
 use mathlib.Core.Bool.{Bool, true, false}
+use mathlib.Core.Logic.{◌≢◌}
 use mathlib.Core.List.{List, [], ◌∷◌}
 use lib.ListN.{length, take, drop, length-drop}
-use lib.Seq.{drop-drop, take_all}
+use lib.Seq.{take_all}
 use lib.Dec.{eqb}
 use native.Mathlib.Omega.{arith}
 use borrow.Author.Tests.{eqb-true, eqb-false}
@@ -17,49 +17,44 @@ use Rattle.trunk.specs.Bundle.{first_pdu, stop_of, slice_stop, bundle}
 use Rattle.trunk.proofs.BundleLaws.{passing, slice_end, slice_here, slice_next}
 
 -- what is left of a slice from a place on, as a part that is lent
-pub rest_part : (at : ℕ) (d : List ℕ) → take (length d - at) (drop at d) ≡ drop at d
+rest_part : (at : ℕ) (d : List ℕ) → take (length d - at) (drop at d) ≡ drop at d
 rest_part at d = take_all (length d - at) (drop at d) (rw (length-drop at d) (omega arith))
 
--- from a place on there is something left
-left_at : (at : ℕ) (d : List ℕ) → at < length d → 0 < length (drop at d)
-left_at at d h = rw (length-drop at d) (omega arith)
+-- the part behind its first n bytes, as the code takes it
+abbrev pub part_behind : List ℕ → ℕ → List ℕ
+part_behind d n = take (length d - n) (drop n d)
 
 -- one PDU further
-pub record Onward (at : ℕ) (d : List ℕ) : Type 0 where
-  pub inside : at + used (drop at d) ≤ length d
-  pub some : 0 < used (drop at d)
-  pub stop : slice_stop (drop at d) ≡ slice_stop (drop (at + used (drop at d)) d)
-  pub pdus : bundle (drop at d) ≡ first_pdu (drop at d) ∷ bundle (drop (at + used (drop at d)) d)
+pub record Onward (d rest : List ℕ) : Type 0 where
+  pub inside : used d ≤ length d
+  pub shorter : length rest < length d
+  pub stop : slice_stop d ≡ slice_stop rest
+  pub pdus : bundle d ≡ first_pdu d ∷ bundle rest
 
-pub onward : (at : ℕ) (d : List ℕ) → at < length d → stop_of (reading (drop at d)) ≡ 0 → Onward at d
-onward at d h go =
-    let p = passing (drop at d) go in
-    let turn = slice_next (drop at d) (left_at at d h) go in
-    let behind = drop-drop (used (drop at d)) at d in
+pub onward : (d : List ℕ) (n : ℕ) → stop_of (reading d) ≡ 0 → n ≡ used d → Onward d (part_behind d n)
+onward d n go size =
+    let p = passing d go in
+    let turn = slice_next d (omega (arith, used-fits d p.taken, used_some d p.taken)) go in
+    let rest : drop (used d) d ≡ part_behind d n = ap (λ (k : ℕ). drop k d) (sym size) ∙ sym (rest_part n d) in
     record {
-      inside = omega (arith, used-fits (drop at d) p.taken, length-drop at d);
-      some = omega (arith, used_some (drop at d) p.taken);
-      stop = turn.0 ∙ ap slice_stop behind;
-      pdus = turn.1 ∙ ap (λ (l : List ℕ). first_pdu (drop at d) ∷ bundle l) behind;
+      inside = used-fits d p.taken;
+      shorter = omega (arith, ap length (sym rest), length-drop (used d) d, used_some d p.taken, used-fits d p.taken);
+      stop = turn.0 ∙ ap slice_stop rest;
+      pdus = turn.1 ∙ ap (λ (l : List ℕ). first_pdu d ∷ bundle l) rest;
     }
 
--- a slice that nothing stops, from a place on
-pub goes_from : (at : ℕ) (d : List ℕ) → at < length d → slice_stop (drop at d) ≡ 0 → stop_of (reading (drop at d)) ≡ 0
-goes_from at d h none = by (eqb (stop_of (reading (drop at d))) 0) refl
+-- a slice that nothing stops, where its first PDU is stopped: it is empty
+pub ended : (d : List ℕ) → slice_stop d ≡ 0 → stop_of (reading d) ≢ 0 → bundle d ≡ []
+ended d none stop = by (eqb (length d) 0) refl
   where
-    by : (b : Bool) → eqb (stop_of (reading (drop at d))) 0 ≡ b → stop_of (reading (drop at d)) ≡ 0
-    by true e = eqb-true _ _ e
+    by : (b : Bool) → eqb (length d) 0 ≡ b → bundle d ≡ []
+    by true e = (slice_end d (eqb-true _ _ e)).1
     by false e =
-        let stop = eqb-false _ _ e in
-        absurd (stop (sym (slice_here (drop at d) (left_at at d h) stop).0 ∙ none))
+        let some = eqb-false _ _ e in
+        absurd (stop (sym (slice_here d (omega arith) stop).0 ∙ none))
 
--- stopped at a place, and at the end
-pub halted :
-    (at : ℕ) (d : List ℕ)
-    → at < length d
-    → stop_of (reading (drop at d)) ≢ 0
-    → (slice_stop (drop at d) ≡ stop_of (reading (drop at d))) × (bundle (drop at d) ≡ [])
-halted at d h stop = slice_here (drop at d) (left_at at d h) stop
-
-pub ended : (at : ℕ) (d : List ℕ) → length d ≤ at → (slice_stop (drop at d) ≡ 0) × (bundle (drop at d) ≡ [])
-ended at d h = slice_end (drop at d) (rw (length-drop at d) (omega arith))
+-- a slice that is not empty, by the test of the code
+pub some_left : (d : List ℕ) → false ≡ eqb (length d) 0 → 0 < length d
+some_left d test =
+    let other = eqb-false _ _ (sym test) in
+    omega arith

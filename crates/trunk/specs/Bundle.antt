@@ -1,9 +1,9 @@
 -- Several PDUs in one datagram (02, R-5): the PDUs of a slice from the front, each behind the one before, and the number that stops them.
-use Rattle.std.specs.Prelude.{ℕ, zero, suc, cond, not, List, [], ◌∷◌, length, take, drop, eqb}
+use Rattle.std.specs.Prelude.{ℕ, zero, suc, cond, not, List, [], ◌∷◌, length, take, drop, eqb, is_none}
 use Rattle.wire.specs.First.{◌given_when◌, first}
 use Rattle.pdu.specs.Reading.{reading, used, number_of}
 use Rattle.pdu.specs.declared.Reading.{Reading}
-use Rattle.trunk.specs.Kinds.{kind_of, no_kind}
+use Rattle.trunk.specs.Kinds.{kind_of}
 
 -- the first PDU of a slice, by "how many bytes it used", and what stands behind it, which is the next one's slice
 abbrev pub first_pdu : List ℕ → List ℕ
@@ -14,7 +14,7 @@ behind_first d = drop (used d) d
 
 -- the number that stops a PDU, by what was read, or 0: "that the reader refuses or 23 stops"
 unfoldable pub stop_of : Reading → ℕ
-stop_of answer = first ((number_of answer given_when not (eqb (number_of answer) 0)) ∷ (23 given_when eqb (kind_of answer) no_kind) ∷ [])
+stop_of answer = first ((number_of answer given_when not (eqb (number_of answer) 0)) ∷ (23 given_when is_none (kind_of answer)) ∷ [])
 
 -- "the number of the first PDU, from the front", that is stopped, or 0, of n PDUs at most
 unfoldable pub stop_in : ℕ → List ℕ → ℕ

@@ -1,13 +1,12 @@
 -- What demand 3 means for the box: the far station is given each order once, what the near end counts as acknowledged was put out, and nothing
 -- is put out that was not offered.
-use Rattle.std.specs.Prelude.{ℕ, ◌<◌, ◌≡◌, get_or, take}
+use Rattle.std.specs.Prelude.{ℕ, ◌<◌, ◌≡◌, get_or, take, Ok}
 use mathlib.Core.List.{List, [], ◌∷◌, Memᴰ}
 use Rattle.pdu.specs.Writing.{padding_zero}
 use Rattle.station.specs.Runs.{Call as StationCall, datagram, time}
 use Rattle.trunk.specs.Bundle.{bundle}
 use Rattle.trunk.specs.Line.{Entry, offer_made, Call, offer, Line, accepted, put_out, events}
 use Rattle.trunk.specs.Demand.{pdu_at, count}
-use Rattle.trunk.specs.declared.Offer.TheVariants.{Taken}
 
 -- the datagrams among a station's calls
 abbrev pub datagrams : List StationCall → List (List ℕ)
@@ -22,7 +21,7 @@ pub record WasOffered (p : List ℕ) (calls : List Call) (log : List Entry) : Ty
   pub number : ℕ
   pub call : Memᴰ (offer given) calls
   pub store : List ℕ
-  pub entry : Memᴰ (offer_made given (Taken number) store) log
+  pub entry : Memᴰ (offer_made given (Ok number) store) log
   pub pdu : List ℕ
   pub inside : Memᴰ pdu (bundle given)
   pub form : p ≡ padding_zero pdu

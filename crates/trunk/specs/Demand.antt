@@ -1,5 +1,5 @@
 -- Demand 3, sentence by sentence (01, "What demand 3 means"): what holds after every fair list of calls.
-use Rattle.std.specs.Prelude.{ℕ, ◌+◌, ◌≤◌, ◌<◌, ◌≡◌, List, [], ◌∷◌, map, length, get_or, take}
+use Rattle.std.specs.Prelude.{ℕ, ◌+◌, ◌≤◌, ◌<◌, ◌≡◌, List, [], ◌∷◌, map, length, get_or, take, Ok, Err}
 use Rattle.pdu.specs.Writing.{padding_zero}
 use Rattle.station.specs.Runs.{after, answers}
 use Rattle.station.specs.declared.Station.{Station}
@@ -8,10 +8,7 @@ use Rattle.trunk.specs.Bundle.{bundle}
 use Rattle.trunk.specs.Far.{reply_after}
 use Rattle.trunk.specs.Line.{Entry, offer_made, send_made, reply_heard, record_heard, clock_set, Call, to_near, to_far, Line, run, collect}
 use Rattle.trunk.specs.Line.{accepted, put_out, acknowledged, events, station_said, Fair}
-use Rattle.trunk.specs.declared.Offer.TheVariants.{Refused as refused_offer, Taken}
-use Rattle.trunk.specs.declared.Sent.TheVariants.{Refused as refused_send, Size}
-use Rattle.trunk.specs.declared.Reply.TheVariants.{Refused as refused_reply, Acknowledged}
-use Rattle.trunk.specs.declared.Arrival.TheVariants.{Refused as refused_arrival, Delivered, Repeat, Early}
+use Rattle.trunk.specs.declared.Arrival.TheVariants.{Delivered, Repeat, Early}
 
 -- PDU i of those accepted, and its record: "kind, i, PDU i"
 abbrev pub pdu_at : List Entry → ℕ → List ℕ
@@ -22,8 +19,8 @@ record_at log i = record_for i (pdu_at log i)
 
 -- the PDUs of the offers not refused, from number 0, as they were offered
 abbrev pub given_by : Entry → List (List ℕ)
-given_by (offer_made d (refused_offer n) store) = []
-given_by (offer_made d (Taken i) store) = bundle d
+given_by (offer_made d (Err e) store) = []
+given_by (offer_made d (Ok i) store) = bundle d
 given_by (send_made i a out) = []
 given_by (reply_heard r a) = []
 given_by (record_heard r a reply out) = []
@@ -46,20 +43,20 @@ handover l reply out =
 -- the numbers in an answer and in a written record are those of the log: an offer's first number and the records in the rows of its PDUs, a send's
 -- record and size, a reply's count, a delivered PDU's size, and the count in each reply written, which is 32 and that count in 4 bytes
 abbrev pub Says : Entry → List Entry → Type 0
-Says (offer_made d (refused_offer n) store) log = Unit {0}
-Says (offer_made d (Taken i) store) log =
+Says (offer_made d (Err e) store) log = Unit {0}
+Says (offer_made d (Ok i) store) log =
     (i ≡ length (accepted log))
-    × ((j : ℕ) → i ≤ j → j < i + length (bundle d) → plain_row store j ≡ record_at (offer_made d (Taken i) store ∷ log) j)
-Says (send_made i (refused_send n) out) log = Unit {0}
-Says (send_made i (Size n) out) log =
+    × ((j : ℕ) → i ≤ j → j < i + length (bundle d) → plain_row store j ≡ record_at (offer_made d (Ok i) store ∷ log) j)
+Says (send_made i (Err e) out) log = Unit {0}
+Says (send_made i (Ok n) out) log =
     (i < length (accepted log)) × (take n out ≡ record_at log i) × (n ≡ length (record_at log i))
-Says (reply_heard r (refused_reply n)) log = Unit {0}
-Says (reply_heard r (Acknowledged n)) log = n ≡ acknowledged (reply_heard r (Acknowledged n) ∷ log)
-Says (record_heard r (refused_arrival n) reply out) log = Unit {0}
-Says (record_heard r (Delivered size answer) reply out) log =
+Says (reply_heard r (Err e)) log = Unit {0}
+Says (reply_heard r (Ok n)) log = n ≡ acknowledged (reply_heard r (Ok n) ∷ log)
+Says (record_heard r (Err e) reply out) log = Unit {0}
+Says (record_heard r (Ok (Delivered size answer)) reply out) log =
     (size ≡ length (pdu_at log (count log))) × (take 5 reply ≡ reply_with (count log + 1))
-Says (record_heard r Repeat reply out) log = take 5 reply ≡ reply_with (count log)
-Says (record_heard r Early reply out) log = take 5 reply ≡ reply_with (count log)
+Says (record_heard r (Ok Repeat) reply out) log = take 5 reply ≡ reply_with (count log)
+Says (record_heard r (Ok Early) reply out) log = take 5 reply ≡ reply_with (count log)
 Says (clock_set t a) log = Unit {0}
 
 -- every entry says so of the log before it

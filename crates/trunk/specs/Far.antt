@@ -1,18 +1,20 @@
 -- The far end: a record's arrival and the clock (01, "The trunk").
-use Rattle.std.specs.Prelude.{ℕ, ◌+◌, ◌≡◌, Bool, cond, ◌||◌, List, [], ◌∷◌, ◌++◌, length, drop, eqb, ltb}
+use Rattle.std.specs.Prelude.{ℕ, ◌+◌, ◌≡◌, Bool, cond, ◌||◌, List, [], ◌∷◌, ◌++◌, length, drop, eqb, ltb, Result, Ok, Err}
 use Rattle.wire.specs.First.{Refusal, ◌given_when◌, first, told}
+use Rattle.station.specs.Answers.{number as station_number}
 use Rattle.station.specs.Units.{made}
 use Rattle.station.specs.Hearing.{heard}
 use Rattle.station.specs.Clock.{clocked}
 use Rattle.station.specs.declared.Settings.{Settings}
 use Rattle.station.specs.declared.Station.{Station}
+use Rattle.trunk.specs.Refusals.{Refusal as Reason, number, named}
 use Rattle.trunk.specs.Head.{head_size}
 use Rattle.trunk.specs.Kinds.{longest_pdu}
 use Rattle.trunk.specs.Record.{reply_of, number_in, carried_in, is_reply, form_rules, pdu_rules}
 use Rattle.trunk.specs.declared.Far.{Far}
 use Rattle.trunk.specs.declared.MadeFar.{MadeFar}
 use Rattle.trunk.specs.declared.Arrival.{Arrival}
-use Rattle.trunk.specs.declared.Arrival.TheVariants.{Refused, Delivered, Repeat, Early}
+use Rattle.trunk.specs.declared.Arrival.TheVariants.{Delivered, Repeat, Early}
 use Rattle.trunk.specs.declared.Arrived.{Arrived}
 use Rattle.trunk.specs.declared.Ticked.{Ticked}
 
@@ -51,21 +53,21 @@ abbrev pub delivered : ℕ → Station → List ℕ → Arrived
 delivered k station pdu =
     record {
       far = record { count = k; station = (heard station pdu).station };
-      answer = Delivered (length pdu) (heard station pdu).answer;
+      answer = Ok (Delivered (length pdu) (heard station pdu).answer);
     }
 
 -- a record that was not refused: by its number, delivered, "Below k: repeat. Above k: early, dropped"
 abbrev pub placed : Far → List ℕ → Arrived
 placed far r =
     cond (is_next far.count (number_in r)) (delivered (count_after far.count (number_in r)) far.station (carried_in r))
-    (cond (ltb (number_in r) far.count) (record { far = far; answer = Repeat }) (record { far = far; answer = Early }))
+    (cond (ltb (number_in r) far.count) (record { far = far; answer = Ok Repeat }) (record { far = far; answer = Ok Early }))
 
 -- what an arrival answers and leaves
 unfoldable pub arrived : Far → List ℕ → ℕ → ℕ → Arrived
 arrived far r reply_room room =
     cond (eqb (first (arrival_rules r reply_room room)) 0)
     (placed far r)
-    (record { far = far; answer = Refused (first (arrival_rules r reply_room room)) })
+    (record { far = far; answer = Err (named (first (arrival_rules r reply_room room))) })
 
 -- what it leaves in the reply buffer: "All three write a reply with the new k at its buffer's start"
 unfoldable pub reply_after : Far → List ℕ → List ℕ → ℕ → List ℕ
@@ -82,17 +84,17 @@ output_after far r reply_room out =
     out
 
 -- document 01's number and values of each answer: "delivered (with PDU size and station's answer), repeat or early", which have none
-abbrev pub arrival_says : Arrival → List ℕ
-arrival_says (Refused n) = n ∷ []
-arrival_says (Delivered size answer) = 0 ∷ size ∷ answer ∷ []
-arrival_says Repeat = 0 ∷ []
-arrival_says Early = 0 ∷ []
+abbrev pub arrival_says : Result Arrival Reason → List ℕ
+arrival_says (Err e) = number e ∷ []
+arrival_says (Ok (Delivered size answer)) = 0 ∷ size ∷ station_number answer ∷ []
+arrival_says (Ok Repeat) = 0 ∷ []
+arrival_says (Ok Early) = 0 ∷ []
 
 -- the values of a record that was not refused
 abbrev pub values_of : Far → List ℕ → List ℕ
 values_of far r =
     cond (is_next far.count (number_in r))
-    (length (carried_in r) ∷ (heard far.station (carried_in r)).answer ∷ [])
+    (length (carried_in r) ∷ station_number (heard far.station (carried_in r)).answer ∷ [])
     []
 
 -- the whole outcome of an arrival: its answer with the far end after it, the reply buffer and the output after it

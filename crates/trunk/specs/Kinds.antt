@@ -1,16 +1,15 @@
 -- The kinds of record (01, "The trunk"): one table of rows, from which what a record carries, its length, whether its kind is known, and the
 -- kind under which a PDU is offered follow.
 use Rattle.std.specs.Prelude.{ℕ, ◌+◌, ◌-◌, ◌*◌, Bool, true, false, cond, ◌&&◌, List, [], ◌∷◌, eqb, leb}
+use Rattle.std.specs.Prelude.{Option, None, Some, option_map, option_and_then, unwrap_or}
 use Rattle.pdu.specs.Numbers.{transmitter_size, body_header, word_bytes, most_words, interrogation, timing_reply, timing_bytes}
 use Rattle.pdu.specs.Tables.{signal_size}
 use Rattle.pdu.specs.Words.{words_in}
 use Rattle.pdu.specs.declared.Reading.{Reading}
 use Rattle.pdu.specs.declared.Reading.TheVariants.{Refused, Transmitter as a_transmitter, Signal as a_signal}
-use Rattle.pdu.specs.declared.Carried.{Carried}
-use Rattle.pdu.specs.declared.Carried.TheVariants.{Other, Pdu}
 use Rattle.trunk.specs.Head.{head_size}
 use Rattle.trunk.specs.declared.Load.{Load}
-use Rattle.trunk.specs.declared.Load.TheVariants.{Words, Transmitter, Interrogation, TimingReply, Nothing, Unknown}
+use Rattle.trunk.specs.declared.Load.TheVariants.{Words, Transmitter, Interrogation, TimingReply, Nothing}
 
 -- ---- the table
 
@@ -48,12 +47,12 @@ kinds = signals ∷ transmitters ∷ interrogations ∷ timing_replies ∷ repli
 abbrev pub in_row : KindRow → ℕ → Bool
 in_row row kind = leb row.first kind && leb kind row.last
 
--- what it carries by the first row that it is in
-abbrev pub load_in : List KindRow → ℕ → Load
-load_in [] kind = Unknown
-load_in (row ∷ rest) kind = cond (in_row row kind) (row.load (kind - row.first)) (load_in rest kind)
+-- what it carries by the first row that it is in, if it is in one
+abbrev pub load_in : List KindRow → ℕ → Option Load
+load_in [] kind = None
+load_in (row ∷ rest) kind = cond (in_row row kind) (Some (row.load (kind - row.first))) (load_in rest kind)
 
-unfoldable pub load : ℕ → Load
+unfoldable pub load : ℕ → Option Load
 load kind = load_in kinds kind
 
 -- how many bytes a load takes
@@ -63,72 +62,72 @@ load_size Transmitter = transmitter_size
 load_size Interrogation = signal_size timing_bytes
 load_size TimingReply = signal_size timing_bytes
 load_size Nothing = 0
-load_size Unknown = 0
 
 -- the longest PDU that the trunk carries: one of 12 words
 abbrev pub longest_pdu : ℕ
 longest_pdu = 180
 
--- the length of a record of this kind, and that of the longest record
+-- how many bytes a record of this kind carries, none where the kind is unknown; its length, and that of the longest record
+abbrev pub carried_size : ℕ → ℕ
+carried_size kind = unwrap_or (option_map load_size (load kind)) 0
+
 abbrev pub record_size : ℕ → ℕ
-record_size kind = head_size + load_size (load kind)
+record_size kind = head_size + carried_size kind
 
 abbrev pub longest_record : ℕ
 longest_record = head_size + longest_pdu
 
--- whether the table lacks a kind, and whether a record of it is a reply
-abbrev pub is_unknown : Load → Bool
-is_unknown (Words n) = false
-is_unknown Transmitter = false
-is_unknown Interrogation = false
-is_unknown TimingReply = false
-is_unknown Nothing = false
-is_unknown Unknown = true
-
+-- whether a load is that of a reply
 abbrev pub is_nothing : Load → Bool
 is_nothing (Words n) = false
 is_nothing Transmitter = false
 is_nothing Interrogation = false
 is_nothing TimingReply = false
 is_nothing Nothing = true
-is_nothing Unknown = false
+
+abbrev pub is_reply_load : Option Load → Bool
+is_reply_load None = false
+is_reply_load (Some l) = is_nothing l
 
 -- ---- the kind of what is carried
 
--- a number that is no kind
-abbrev pub no_kind : ℕ
-no_kind = 256
-
--- the kind of a load: that of its row, or none
+-- the kind of a load: that of its row
 abbrev pub kind_for : Load → ℕ
 kind_for (Words n) = signals.first + n
 kind_for Transmitter = transmitters.first
 kind_for Interrogation = interrogations.first
 kind_for TimingReply = timing_replies.first
 kind_for Nothing = replies.first
-kind_for Unknown = no_kind
 
 abbrev pub reply_kind : ℕ
 reply_kind = kind_for Nothing
 
 -- what carries a message of this type that has no words: the others are not carried
-abbrev pub load_of_type : ℕ → Load
-load_of_type type = cond (eqb type interrogation) Interrogation (cond (eqb type timing_reply) TimingReply Unknown)
+abbrev pub load_of_type : ℕ → Option Load
+load_of_type type = cond (eqb type interrogation) (Some Interrogation) (cond (eqb type timing_reply) (Some TimingReply) None)
 
 -- what carries a Signal of this message type with a body of n bytes
-abbrev pub load_of_signal : ℕ → ℕ → Load
-load_of_signal type n = cond (eqb type 0) (Words (words_in n)) (load_of_type type)
+abbrev pub load_of_signal : ℕ → ℕ → Option Load
+load_of_signal type n = cond (eqb type 0) (Some (Words (words_in n))) (load_of_type type)
 
--- what carries what reading answered, and its kind
-abbrev pub load_of : Reading → Load
-load_of (Refused n) = Unknown
-load_of (a_transmitter t) = Transmitter
+-- what carries what reading answered, and its kind; nothing carries a refusal
+abbrev pub load_of : Reading → Option Load
+load_of (Refused e) = None
+load_of (a_transmitter t) = Some Transmitter
 load_of (a_signal s n) = load_of_signal s.network.message_type n
 
-abbrev pub kind_of : Reading → ℕ
-kind_of answer = kind_for (load_of answer)
+abbrev pub kind_of : Reading → Option ℕ
+kind_of answer = option_map kind_for (load_of answer)
 
--- the kind of what bytes hold that should be in written form, or none
-abbrev pub kind_carried : Carried → ℕ
-kind_carried Other = no_kind
-kind_carried (Pdu answer) = kind_of answer
+-- whether this is the kind
+abbrev pub is_kind : Option ℕ → ℕ → Bool
+is_kind None kind = false
+is_kind (Some k) kind = eqb k kind
+
+-- the kind under which what was read is offered: what has none is not offered, and 0 fills its place
+abbrev pub offered_kind : Reading → ℕ
+offered_kind answer = unwrap_or (kind_of answer) 0
+
+-- the kind of what bytes hold that should be in written form
+abbrev pub kind_carried : Option Reading → Option ℕ
+kind_carried carried = option_and_then kind_of carried

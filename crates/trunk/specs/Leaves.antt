@@ -1,9 +1,10 @@
 -- What each call of the trunk leaves, in plain numbers and at byte places (01, "The trunk"): of a call that is taken the end's state, the store
 -- and every byte of the buffers lent to it; of a refused one, nothing changed. `OfferExactly` and the others say when a call is taken.
-use Rattle.std.specs.Prelude.{ℕ, ◌+◌, ◌*◌, ◌%◌, max, ◌≡◌, ◌≢◌, List, [], ◌∷◌, ◌++◌, length, take, drop}
+use Rattle.std.specs.Prelude.{ℕ, ◌+◌, ◌*◌, ◌%◌, max, ◌≡◌, ◌≢◌, List, [], ◌∷◌, ◌++◌, length, take, drop, Ok, Err}
 use Rattle.wire.specs.Bytes.{num}
 use Rattle.pdu.specs.Reading.{reading}
 use Rattle.pdu.specs.Writing.{padding_zero}
+use Rattle.station.specs.Answers.{number as station_number}
 use Rattle.station.specs.Units.{made}
 use Rattle.station.specs.Hearing.{heard}
 use Rattle.station.specs.Clock.{clocked}
@@ -15,10 +16,6 @@ use Rattle.trunk.specs.declared.Near.{Near}
 use Rattle.trunk.specs.declared.Far.{Far}
 use Rattle.trunk.specs.declared.MadeFar.{MadeFar}
 use Rattle.trunk.specs.declared.Ticked.{Ticked}
-use Rattle.trunk.specs.declared.Offer.TheVariants.{Refused as refused_offer, Taken}
-use Rattle.trunk.specs.declared.Sent.TheVariants.{Refused as refused_send, Size}
-use Rattle.trunk.specs.declared.Reply.TheVariants.{Refused as refused_reply, Acknowledged}
-use Rattle.trunk.specs.declared.Arrival.TheVariants.{Refused as refused_arrival, Delivered, Repeat, Early}
 
 -- ---- calls that are taken
 
@@ -85,17 +82,15 @@ pub record TickLeaves (far : Far) (t : ℕ) (o : Ticked) : Type 0 where
 
 -- the entry of a refused call; a clock is refused by 36
 abbrev pub Refused : Entry → Type 0
-Refused (offer_made d (refused_offer n) store) = Unit {0}
-Refused (offer_made d (Taken i) store) = ⊥
-Refused (send_made i (refused_send n) out) = Unit {0}
-Refused (send_made i (Size n) out) = ⊥
-Refused (reply_heard r (refused_reply n)) = Unit {0}
-Refused (reply_heard r (Acknowledged n)) = ⊥
-Refused (record_heard r (refused_arrival n) reply out) = Unit {0}
-Refused (record_heard r (Delivered size answer) reply out) = ⊥
-Refused (record_heard r Repeat reply out) = ⊥
-Refused (record_heard r Early reply out) = ⊥
-Refused (clock_set t a) = a ≡ 36
+Refused (offer_made d (Err e) store) = Unit {0}
+Refused (offer_made d (Ok i) store) = ⊥
+Refused (send_made i (Err e) out) = Unit {0}
+Refused (send_made i (Ok n) out) = ⊥
+Refused (reply_heard r (Err e)) = Unit {0}
+Refused (reply_heard r (Ok n)) = ⊥
+Refused (record_heard r (Err e) reply out) = Unit {0}
+Refused (record_heard r (Ok a) reply out) = ⊥
+Refused (clock_set t a) = station_number a ≡ 36
 
 -- what is lent to a call, and what it left there
 abbrev pub lent : Line → Call → List (List ℕ)

@@ -1,25 +1,22 @@
 -- A list of calls on both ends of the line (01, "What demand 3 means"): each call gets the state that the last one left, and a log keeps each
 -- call with all that it gave back, last call first. What was accepted, written, put out and acknowledged are functions of the log.
-use Rattle.std.specs.Prelude.{ℕ, zero, suc, ◌+◌, max, length, take}
+use Rattle.std.specs.Prelude.{ℕ, zero, suc, ◌+◌, max, length, take, Result, Ok, Err}
 use mathlib.Core.List.{List, [], ◌∷◌, ◌++◌, Memᴰ, map}
 use Rattle.wire.specs.Bytes.{num, Bytes}
 use Rattle.pdu.specs.Writing.{written_form}
+use Rattle.station.specs.Answers.{number as station_number}
+use Rattle.station.specs.declared.answers.Answer.{Answer}
 use Rattle.station.specs.Runs.{Call as StationCall, datagram, time}
 use Rattle.station.specs.declared.Settings.{Settings}
+use Rattle.trunk.specs.Refusals.{Refusal}
 use Rattle.trunk.specs.Plain.{plain_row}
 use Rattle.trunk.specs.Bundle.{bundle}
 use Rattle.trunk.specs.Near.{fresh_near, offered, store_after, sent, sent_out, replied}
 use Rattle.trunk.specs.Far.{made_far, arrived, reply_after, output_after, ticked}
 use Rattle.trunk.specs.declared.Near.{Near}
 use Rattle.trunk.specs.declared.Far.{Far}
-use Rattle.trunk.specs.declared.Offer.{Offer}
-use Rattle.trunk.specs.declared.Offer.TheVariants.{Refused as refused_offer, Taken}
-use Rattle.trunk.specs.declared.Sent.{Sent}
-use Rattle.trunk.specs.declared.Sent.TheVariants.{Refused as refused_send, Size}
-use Rattle.trunk.specs.declared.Reply.{Reply}
-use Rattle.trunk.specs.declared.Reply.TheVariants.{Refused as refused_reply, Acknowledged}
 use Rattle.trunk.specs.declared.Arrival.{Arrival}
-use Rattle.trunk.specs.declared.Arrival.TheVariants.{Refused as refused_arrival, Delivered, Repeat, Early}
+use Rattle.trunk.specs.declared.Arrival.TheVariants.{Delivered, Repeat, Early}
 
 -- a call, with the arguments that its caller is free to choose
 pub data Call : Type 0 where
@@ -36,11 +33,11 @@ pub data Call : Type 0 where
 
 -- a call that was made: its arguments, its answer, and what it left in the store or the buffers lent to it
 pub data Entry : Type 0 where
-  offer_made : List ℕ → Offer → List ℕ → Entry
-  send_made : ℕ → Sent → List ℕ → Entry
-  reply_heard : List ℕ → Reply → Entry
-  record_heard : List ℕ → Arrival → List ℕ → List ℕ → Entry
-  clock_set : ℕ → ℕ → Entry
+  offer_made : List ℕ → Result ℕ Refusal → List ℕ → Entry
+  send_made : ℕ → Result ℕ Refusal → List ℕ → Entry
+  reply_heard : List ℕ → Result ℕ Refusal → Entry
+  record_heard : List ℕ → Result Arrival Refusal → List ℕ → List ℕ → Entry
+  clock_set : ℕ → Answer → Entry
 
 -- both ends, the store, and the log
 pub record Line : Type 0 where
@@ -115,8 +112,8 @@ collect f (e ∷ log) = collect f log ++ f e
 
 -- "Accepted are the PDUs of the offers not refused, from number 0, as the writer gives them"; 02, R-5: "of the PDUs inside bundles, one by one"
 abbrev pub accepted_by : Entry → List (List ℕ)
-accepted_by (offer_made d (refused_offer n) store) = []
-accepted_by (offer_made d (Taken i) store) = map written_form (bundle d)
+accepted_by (offer_made d (Err e) store) = []
+accepted_by (offer_made d (Ok i) store) = map written_form (bundle d)
 accepted_by (send_made i a out) = []
 accepted_by (reply_heard r a) = []
 accepted_by (record_heard r a reply out) = []
@@ -130,10 +127,10 @@ abbrev pub put_out_by : Entry → List (List ℕ)
 put_out_by (offer_made d a store) = []
 put_out_by (send_made i a out) = []
 put_out_by (reply_heard r a) = []
-put_out_by (record_heard r (refused_arrival n) reply out) = []
-put_out_by (record_heard r (Delivered size answer) reply out) = take size out ∷ []
-put_out_by (record_heard r Repeat reply out) = []
-put_out_by (record_heard r Early reply out) = []
+put_out_by (record_heard r (Err e) reply out) = []
+put_out_by (record_heard r (Ok (Delivered size answer)) reply out) = take size out ∷ []
+put_out_by (record_heard r (Ok Repeat) reply out) = []
+put_out_by (record_heard r (Ok Early) reply out) = []
 put_out_by (clock_set t a) = []
 
 abbrev pub put_out : List Entry → List (List ℕ)
@@ -146,15 +143,15 @@ rows_from store i (suc n) = plain_row store i ∷ rows_from store (i + 1) n
 
 -- the records that calls wrote: an offer's, as their rows of the store have them; a send's, by the size answered; and an arrival's reply, 5 bytes
 abbrev pub written_by : Entry → List (List ℕ)
-written_by (offer_made d (refused_offer n) store) = []
-written_by (offer_made d (Taken i) store) = rows_from store i (length (bundle d))
-written_by (send_made i (refused_send n) out) = []
-written_by (send_made i (Size n) out) = take n out ∷ []
+written_by (offer_made d (Err e) store) = []
+written_by (offer_made d (Ok i) store) = rows_from store i (length (bundle d))
+written_by (send_made i (Err e) out) = []
+written_by (send_made i (Ok n) out) = take n out ∷ []
 written_by (reply_heard r a) = []
-written_by (record_heard r (refused_arrival n) reply out) = []
-written_by (record_heard r (Delivered size answer) reply out) = take 5 reply ∷ []
-written_by (record_heard r Repeat reply out) = take 5 reply ∷ []
-written_by (record_heard r Early reply out) = take 5 reply ∷ []
+written_by (record_heard r (Err e) reply out) = []
+written_by (record_heard r (Ok (Delivered size answer)) reply out) = take 5 reply ∷ []
+written_by (record_heard r (Ok Repeat) reply out) = take 5 reply ∷ []
+written_by (record_heard r (Ok Early) reply out) = take 5 reply ∷ []
 written_by (clock_set t a) = []
 
 abbrev pub written : List Entry → List (List ℕ)
@@ -165,8 +162,8 @@ abbrev pub acknowledged : List Entry → ℕ
 acknowledged [] = 0
 acknowledged (offer_made d a store ∷ log) = acknowledged log
 acknowledged (send_made i a out ∷ log) = acknowledged log
-acknowledged (reply_heard r (refused_reply n) ∷ log) = acknowledged log
-acknowledged (reply_heard r (Acknowledged n) ∷ log) = max (acknowledged log) (num 4 1 r)
+acknowledged (reply_heard r (Err e) ∷ log) = acknowledged log
+acknowledged (reply_heard r (Ok n) ∷ log) = max (acknowledged log) (num 4 1 r)
 acknowledged (record_heard r a reply out ∷ log) = acknowledged log
 acknowledged (clock_set t a ∷ log) = acknowledged log
 
@@ -175,25 +172,25 @@ abbrev pub events_by : Entry → List StationCall
 events_by (offer_made d a store) = []
 events_by (send_made i a out) = []
 events_by (reply_heard r a) = []
-events_by (record_heard r (refused_arrival n) reply out) = []
-events_by (record_heard r (Delivered size answer) reply out) = datagram (take size out) ∷ []
-events_by (record_heard r Repeat reply out) = []
-events_by (record_heard r Early reply out) = []
+events_by (record_heard r (Err e) reply out) = []
+events_by (record_heard r (Ok (Delivered size answer)) reply out) = datagram (take size out) ∷ []
+events_by (record_heard r (Ok Repeat) reply out) = []
+events_by (record_heard r (Ok Early) reply out) = []
 events_by (clock_set t a) = time t ∷ []
 
 abbrev pub events : List Entry → List StationCall
 events log = collect events_by log
 
--- what the station answered
+-- what the station answered, by document 01's numbers
 abbrev pub station_said_by : Entry → List ℕ
 station_said_by (offer_made d a store) = []
 station_said_by (send_made i a out) = []
 station_said_by (reply_heard r a) = []
-station_said_by (record_heard r (refused_arrival n) reply out) = []
-station_said_by (record_heard r (Delivered size answer) reply out) = answer ∷ []
-station_said_by (record_heard r Repeat reply out) = []
-station_said_by (record_heard r Early reply out) = []
-station_said_by (clock_set t a) = a ∷ []
+station_said_by (record_heard r (Err e) reply out) = []
+station_said_by (record_heard r (Ok (Delivered size answer)) reply out) = station_number answer ∷ []
+station_said_by (record_heard r (Ok Repeat) reply out) = []
+station_said_by (record_heard r (Ok Early) reply out) = []
+station_said_by (clock_set t a) = station_number a ∷ []
 
 abbrev pub station_said : List Entry → List ℕ
 station_said log = collect station_said_by log

@@ -1,22 +1,17 @@
 -- The near end: offering, sending and taking a reply (01, "The trunk").
-use Rattle.std.specs.Prelude.{ℕ, ◌+◌, ◌-◌, ◌*◌, ◌%◌, ◌≡◌, Bool, cond, not, ◌&&◌, List, [], ◌∷◌, ◌++◌, length, take, drop, eqb, leb, ltb}
+use Rattle.std.specs.Prelude.{ℕ, ◌+◌, ◌-◌, ◌*◌, ◌%◌, ◌≡◌, max, Bool, cond, not, ◌&&◌, List, [], ◌∷◌, ◌++◌, length, take, drop, eqb, leb, ltb, is_none, Result}
 use Rattle.wire.specs.Bytes.{splice}
 use Rattle.wire.specs.First.{Refusal, ◌given_when◌, first, told}
 use Rattle.pdu.specs.Reading.{reading}
 use Rattle.pdu.specs.Writing.{written_form}
+use Rattle.trunk.specs.Refusals.{Refusal as Reason, answered, number_says}
 use Rattle.trunk.specs.Head.{head_at}
-use Rattle.trunk.specs.Kinds.{kind_of, load, is_unknown, is_nothing, record_size}
+use Rattle.trunk.specs.Kinds.{offered_kind, load, is_reply_load, record_size}
 use Rattle.trunk.specs.Record.{head_for, record_of, number_in, last_number, is_reply, form_rules}
 use Rattle.trunk.specs.Bundle.{bundle_stop, bundle}
 use Rattle.trunk.specs.declared.Near.{Near}
-use Rattle.trunk.specs.declared.Offer.{Offer}
-use Rattle.trunk.specs.declared.Offer.TheVariants.{Refused as refused_offer, Taken}
 use Rattle.trunk.specs.declared.Offered.{Offered}
-use Rattle.trunk.specs.declared.Sent.{Sent}
-use Rattle.trunk.specs.declared.Sent.TheVariants.{Refused as refused_send, Size}
 use Rattle.trunk.specs.declared.Sending.{Sending}
-use Rattle.trunk.specs.declared.Reply.{Reply}
-use Rattle.trunk.specs.declared.Reply.TheVariants.{Refused as refused_reply, Acknowledged}
 use Rattle.trunk.specs.declared.Replied.{Replied}
 
 -- "a lent store of eight rows of 192 bytes"
@@ -73,7 +68,7 @@ offer_rules near store d = offer_rules_of near (length store) (bundle_stop d) (l
 
 -- the record that an offer writes of a PDU under a number
 abbrev pub offer_record : ℕ → List ℕ → List ℕ
-offer_record number p = record_of (head_for (kind_of (reading p)) number) (written_form p)
+offer_record number p = record_of (head_for (offered_kind (reading p)) number) (written_form p)
 
 -- the store with that record in its row: "Offering writes the record from the first byte of row (number mod 8)"
 abbrev pub stored : ℕ → List ℕ → List ℕ → List ℕ
@@ -91,9 +86,10 @@ more_accepted near pdus = record { accepted = near.accepted + pdus; acknowledged
 -- what an offer answers and leaves: "a whole bundle or nothing", and "the first number taken"
 unfoldable pub offered : Near → List ℕ → List ℕ → Offered
 offered near store d =
-    cond (eqb (first (offer_rules near store d)) 0)
-    (record { near = more_accepted near (length (bundle d)); answer = Taken near.accepted })
-    (record { near = near; answer = refused_offer (first (offer_rules near store d)) })
+    record {
+      near = cond (eqb (first (offer_rules near store d)) 0) (more_accepted near (length (bundle d))) near;
+      answer = answered (first (offer_rules near store d)) near.accepted;
+    }
 
 -- what an offer leaves in the store
 unfoldable pub store_after : Near → List ℕ → List ℕ → List ℕ
@@ -101,9 +97,8 @@ store_after near store d =
     cond (eqb (first (offer_rules near store d)) 0) (stored_all near.accepted store (bundle d)) store
 
 -- document 01's number and values of its answer: "an offer, the number taken", by 02, R-5 the first
-abbrev pub offer_says : Offer → List ℕ
-offer_says (refused_offer n) = n ∷ []
-offer_says (Taken i) = 0 ∷ i ∷ []
+abbrev pub offer_says : Result ℕ Reason → List ℕ
+offer_says a = number_says a
 
 -- the whole outcome of an offer: its answer with the near end after it, and the store after it
 pub record OfferGives (near : Near) (store d : List ℕ) (o : Offered) (store' : List ℕ) : Type 0 where
@@ -126,8 +121,8 @@ unfoldable pub send_rules : Near → List ℕ → ℕ → ℕ → List Refusal
 send_rules near store i room =
     (28 given_when wrong_store (length store))
     ∷ (26 given_when not (is_held near i))
-    ∷ (20 given_when is_unknown (load (row_kind store i)))
-    ∷ (29 given_when is_nothing (load (row_kind store i)))
+    ∷ (20 given_when is_none (load (row_kind store i)))
+    ∷ (29 given_when is_reply_load (load (row_kind store i)))
     ∷ (16 given_when ltb room (record_size (row_kind store i)))
     ∷ []
 
@@ -138,13 +133,7 @@ row_record store i = take (record_size (row_kind store i)) (drop (row_start i) s
 -- what a send answers; it leaves the near end as it was
 unfoldable pub sent : Near → List ℕ → ℕ → ℕ → Sending
 sent near store i room =
-    record {
-      near = near;
-      answer =
-          cond (eqb (first (send_rules near store i room)) 0)
-          (Size (record_size (row_kind store i)))
-          (refused_send (first (send_rules near store i room)));
-    }
+    record { near = near; answer = answered (first (send_rules near store i room)) (record_size (row_kind store i)) }
 
 -- what a send leaves in the lent buffer
 unfoldable pub sent_out : Near → List ℕ → ℕ → List ℕ → List ℕ
@@ -154,9 +143,8 @@ sent_out near store i out =
     out
 
 -- document 01's number and values of its answer: "a send, the size written"
-abbrev pub send_says : Sent → List ℕ
-send_says (refused_send n) = n ∷ []
-send_says (Size n) = 0 ∷ n ∷ []
+abbrev pub send_says : Result ℕ Reason → List ℕ
+send_says a = number_says a
 
 -- the whole outcome of a send: its answer with the near end after it, and the lent buffer after it
 pub record SendGives (near : Near) (store : List ℕ) (i : ℕ) (out : List ℕ) (s : Sending) (out' : List ℕ) : Type 0 where
@@ -175,7 +163,7 @@ reply_rules near r = form_rules r ++ reply_rest near r
 
 -- "below the acknowledged count it changes nothing, else that count becomes its number"
 abbrev pub acknowledged_after : ℕ → ℕ → ℕ
-acknowledged_after count number = cond (ltb number count) count number
+acknowledged_after count number = max count number
 
 -- the near end after a reply with this number
 abbrev pub acknowledging : Near → ℕ → Near
@@ -185,17 +173,14 @@ acknowledging near number =
 -- what taking a reply answers and leaves
 unfoldable pub replied : Near → List ℕ → Replied
 replied near r =
-    cond (eqb (first (reply_rules near r)) 0)
-    (record {
-      near = acknowledging near (number_in r);
-      answer = Acknowledged (acknowledged_after near.acknowledged (number_in r));
-    })
-    (record { near = near; answer = refused_reply (first (reply_rules near r)) })
+    record {
+      near = cond (eqb (first (reply_rules near r)) 0) (acknowledging near (number_in r)) near;
+      answer = answered (first (reply_rules near r)) (acknowledged_after near.acknowledged (number_in r));
+    }
 
 -- document 01's number and values of its answer: "a reply, the acknowledged count"
-abbrev pub reply_says : Reply → List ℕ
-reply_says (refused_reply n) = n ∷ []
-reply_says (Acknowledged n) = 0 ∷ n ∷ []
+abbrev pub reply_says : Result ℕ Reason → List ℕ
+reply_says a = number_says a
 
 -- the whole outcome of taking a reply: its answer with the near end after it
 pub record ReplyGives (near : Near) (r : List ℕ) (o : Replied) : Type 0 where

@@ -2,6 +2,7 @@
 -- Near and Far, with which they share no constant. `num w o r` is the number in the w bytes of r from byte o on: of a record, byte 0 is the
 -- kind, bytes 1 to 4 are the number, and the PDU stands from byte 5 on. `big 4 n` is the number n in 4 bytes.
 use Rattle.std.specs.Prelude.{ℕ, ◌+◌, ◌-◌, ◌*◌, ◌/◌, ◌%◌, ◌≤◌, ◌<◌, ◌≡◌, ◌⊎◌, ◌≢◌, cond, ◌||◌, List, [], ◌∷◌, ◌++◌, length, get_or, take, drop, eqb}
+use Rattle.std.specs.Prelude.{Option, None, Some}
 use Rattle.wire.specs.Bytes.{num, big}
 use Rattle.wire.specs.Rules.{Rule, ◌unless◌}
 use Rattle.pdu.specs.Reading.{reading, refusal}
@@ -11,7 +12,7 @@ use Rattle.pdu.specs.declared.Signal.{Signal as SignalFields}
 use Rattle.pdu.specs.declared.Reading.{Reading}
 use Rattle.pdu.specs.declared.Reading.TheVariants.{Refused, Transmitter as a_transmitter, Signal as a_signal}
 use Rattle.trunk.specs.declared.Load.{Load}
-use Rattle.trunk.specs.declared.Load.TheVariants.{Words, Transmitter, Interrogation, TimingReply, Nothing, Unknown}
+use Rattle.trunk.specs.declared.Load.TheVariants.{Words, Transmitter, Interrogation, TimingReply, Nothing}
 use Rattle.trunk.specs.declared.Near.{Near}
 
 -- ---- kinds
@@ -21,13 +22,13 @@ abbrev pub KnownKind : ℕ → Type 0
 KnownKind kind = (kind ≤ 12) ⊎ ((kind ≡ 16) ⊎ ((kind ≡ 17) ⊎ ((kind ≡ 18) ⊎ (kind ≡ 32))))
 
 -- what a kind carries: "a type 0 Signal of n words", "a Transmitter", "a reply, the number alone"; round-trip timing of type 1 and of type 2
-pub data KindCarries (kind : ℕ) : Load → Type 0 where
-  signal : kind ≤ 12 → KindCarries kind (Words kind)
-  transmitter : kind ≡ 16 → KindCarries kind Transmitter
-  ask : kind ≡ 17 → KindCarries kind Interrogation
-  answer : kind ≡ 18 → KindCarries kind TimingReply
-  reply : kind ≡ 32 → KindCarries kind Nothing
-  none : ¬ KnownKind kind → KindCarries kind Unknown
+pub data KindCarries (kind : ℕ) : Option Load → Type 0 where
+  signal : kind ≤ 12 → KindCarries kind (Some (Words kind))
+  transmitter : kind ≡ 16 → KindCarries kind (Some Transmitter)
+  ask : kind ≡ 17 → KindCarries kind (Some Interrogation)
+  answer : kind ≡ 18 → KindCarries kind (Some TimingReply)
+  reply : kind ≡ 32 → KindCarries kind (Some Nothing)
+  none : ¬ KnownKind kind → KindCarries kind None
 
 -- the length of a record of a kind: "Records: 65, 73, 85, 185" for 0 to 12 words; "Transmitter 117; reply 5", and 5 where it is unknown; those of
 -- round-trip timing have a PDU of 60 bytes (52 and 6, filled)
@@ -52,7 +53,7 @@ pub data OfKind (kind : ℕ) : Reading → Type 0 where
 -- the kind under which a PDU is offered, by what was read: 16 for a Transmitter, 17 and 18 for types 1 and 2, n for a Signal of n words behind 6
 -- header bytes, 10 bytes each (a refusal is not offered; 0 fills its place)
 abbrev pub plain_kind : Reading → ℕ
-plain_kind (Refused n) = 0
+plain_kind (Refused e) = 0
 plain_kind (a_transmitter t) = 16
 plain_kind (a_signal s n) =
     let type = s.network.message_type in

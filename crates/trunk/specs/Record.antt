@@ -1,13 +1,14 @@
 -- A record's bytes, its parts, and the rules on it (01, "The numbers", 20, 21, 22, 25, 29).
-use Rattle.std.specs.Prelude.{ℕ, Bool, cond, not, ◌&&◌, List, [], ◌∷◌, ◌++◌, length, drop, eqb, ltb}
+use Rattle.std.specs.Prelude.{ℕ, Bool, cond, not, ◌&&◌, List, [], ◌∷◌, ◌++◌, length, drop, eqb, ltb, is_none, Result, Ok, Err}
 use Rattle.wire.specs.First.{Refusal, ◌given_when◌, first, told}
 use Rattle.pdu.specs.Reading.{reading}
 use Rattle.pdu.specs.Writing.{in_written_form}
+use Rattle.trunk.specs.Refusals.{Refusal as Reason, number, answered}
 use Rattle.trunk.specs.Head.{head_size, head_at, head_bytes}
-use Rattle.trunk.specs.Kinds.{load, is_unknown, is_nothing, record_size, reply_kind, kind_of}
+use Rattle.trunk.specs.Kinds.{load, is_reply_load, record_size, reply_kind, kind_of, is_kind}
 use Rattle.trunk.specs.declared.Head.{Head}
 use Rattle.trunk.specs.declared.Checked.{Checked}
-use Rattle.trunk.specs.declared.Checked.TheVariants.{Refused, Reply, Pdu}
+use Rattle.trunk.specs.declared.Checked.TheVariants.{Reply, Pdu}
 
 -- the head of a kind and a number
 abbrev pub head_for : ℕ → ℕ → Head
@@ -39,7 +40,7 @@ last_number = 4294967295
 
 -- 20: "first byte present, but no known trunk kind"
 unfoldable pub unknown_kind : List ℕ → Bool
-unknown_kind r = ltb 0 (length r) && is_unknown (load (kind_in r))
+unknown_kind r = ltb 0 (length r) && is_none (load (kind_in r))
 
 -- 21: "record empty, or not the length of its kind"
 unfoldable pub wrong_size : List ℕ → Bool
@@ -47,7 +48,7 @@ wrong_size r = not (eqb (length r) (record_size (kind_in r)))
 
 -- whether a record is a reply (29 where a PDU belongs; its reverse where a reply belongs)
 unfoldable pub is_reply : List ℕ → Bool
-is_reply r = is_nothing (load (kind_in r))
+is_reply r = is_reply_load (load (kind_in r))
 
 -- 25: "a PDU record with that number"
 unfoldable pub last_of_all : List ℕ → Bool
@@ -55,7 +56,7 @@ last_of_all r = not (is_reply r) && eqb (number_in r) last_number
 
 -- 22: "carried bytes are not what the writer would give, or not a PDU of that kind"
 unfoldable pub wrong_carried : List ℕ → Bool
-wrong_carried r = not (is_reply r) && not (in_written_form (carried_in r) && eqb (kind_of (reading (carried_in r))) (kind_in r))
+wrong_carried r = not (is_reply r) && not (in_written_form (carried_in r) && is_kind (kind_of (reading (carried_in r))) (kind_in r))
 
 -- the rules on a record's form, with which every call that takes a record begins
 unfoldable pub form_rules : List ℕ → List Refusal
@@ -71,30 +72,30 @@ pdu_rules r = (25 given_when last_of_all r) ∷ (22 given_when wrong_carried r) 
 abbrev pub check_rules : List ℕ → List Refusal
 check_rules r = form_rules r ++ pdu_rules r
 
--- what checking a record answers
-unfoldable pub checked : List ℕ → Checked
-checked r =
-    cond (eqb (first (check_rules r)) 0)
-    (cond (is_reply r) (Reply (number_in r) (length r)) (Pdu (kind_in r) (number_in r) (length r)))
-    (Refused (first (check_rules r)))
+-- what a record is that breaks none, and what checking a record answers
+abbrev pub taken : List ℕ → Checked
+taken r = cond (is_reply r) (Reply (number_in r) (length r)) (Pdu (kind_in r) (number_in r) (length r))
+
+unfoldable pub checked : List ℕ → Result Checked Reason
+checked r = answered (first (check_rules r)) (taken r)
 
 -- document 01's number and values of each answer: 0, and the record's kind, number and size
-abbrev pub checked_says : Checked → List ℕ
-checked_says (Refused n) = n ∷ []
-checked_says (Reply number size) = 0 ∷ reply_kind ∷ number ∷ size ∷ []
-checked_says (Pdu kind number size) = 0 ∷ kind ∷ number ∷ size ∷ []
+abbrev pub checked_says : Result Checked Reason → List ℕ
+checked_says (Err e) = number e ∷ []
+checked_says (Ok (Reply number size)) = 0 ∷ reply_kind ∷ number ∷ size ∷ []
+checked_says (Ok (Pdu kind number size)) = 0 ∷ kind ∷ number ∷ size ∷ []
 
 -- what a check says in document 01's numbers: the refusal's alone, or 0 and the record's kind, number and size
 abbrev pub check_says : List ℕ → List ℕ
 check_says r = told (first (check_rules r)) (kind_in r ∷ number_in r ∷ length r ∷ [])
 
 -- document 01's number and size for each answer of a check
-abbrev pub number_of_checked : Checked → ℕ
-number_of_checked (Refused n) = n
-number_of_checked (Reply number size) = 0
-number_of_checked (Pdu kind number size) = 0
+abbrev pub number_of_checked : Result Checked Reason → ℕ
+number_of_checked (Err e) = number e
+number_of_checked (Ok (Reply number size)) = 0
+number_of_checked (Ok (Pdu kind number size)) = 0
 
-abbrev pub size_of_checked : Checked → ℕ
-size_of_checked (Refused n) = 0
-size_of_checked (Reply number size) = size
-size_of_checked (Pdu kind number size) = size
+abbrev pub size_of_checked : Result Checked Reason → ℕ
+size_of_checked (Err e) = 0
+size_of_checked (Ok (Reply number size)) = size
+size_of_checked (Ok (Pdu kind number size)) = size

@@ -1,4 +1,5 @@
-// The far end: a record's arrival and the clock.
+// The far end: a record's arrival and the clock. Ends are handed in and back by value: docs/AUDIT.md (question 4) names these calls, and the steps of
+// `Line` are over such values.
 ghost use Rattle.std.specs.Prelude.{◌≡◌, ◌≤◌, ◌<◌, length};
 ghost use Rattle.wire.specs.Bytes.{splice};
 ghost use Rattle.station.specs.Units.{settings_of, usual_settings};
@@ -15,23 +16,20 @@ pub fn with_limit(level: u8, net: u8, exchanges: u8, limit: u16) -> MadeFar
     ensures { result ≡ made_far (settings_of level net exchanges limit) }
 {
     let made = station::with_limit(level, net, exchanges, limit);
-    let station = made.station;
     MadeFar {
-        far: Far { count: 0, station },
+        far: Far {
+            count: 0,
+            station: made.station,
+        },
         answer: made.answer,
     }
 }
 
-// The same with the usual limit of the station's maker without one, 96 seconds.
+// The same with the usual limit of the station's maker without one, 96 seconds. It is public by this name beside `with_limit` (docs/AUDIT.md, question 4).
 pub fn new(level: u8, net: u8, exchanges: u8) -> MadeFar
     ensures { result ≡ made_far (usual_settings level net exchanges) }
 {
-    let made = station::new(level, net, exchanges);
-    let station = made.station;
-    MadeFar {
-        far: Far { count: 0, station },
-        answer: made.answer,
-    }
+    with_limit(level, net, exchanges, station::USUAL_LIMIT)
 }
 
 // How many PDUs a far end has delivered.
@@ -61,7 +59,7 @@ fn put_reply(reply: &mut [u8], count: u32)
     records::put_head(reply, head);
 }
 
-// Whether a record with this number is the next.
+// Whether a record with this number is the next. A function of its own, since `next_number` and `other-number` hold its definition to document 01.
 #[tactic(auto, unfolding(crate::specs::Far::is_next))]
 fn is_next(k: u32, number: u32) -> bool
     ensures { result ≡ is_next k number }
@@ -70,7 +68,7 @@ fn is_next(k: u32, number: u32) -> bool
 }
 
 // The count after a record with this number.
-#[tactic(auto, unfolding(crate::specs::Far::count_after))]
+#[tactic(auto, unfolding(crate::specs::Far::count_after), using(crate::proofs::EndLaws::next_below))]
 fn count_after(k: u32, number: u32) -> u32
     requires { number < last_number }
     ensures { result ≡ count_after k number }
@@ -86,16 +84,15 @@ fn deliver(count: u32, station: Station, pdu: &[u8], out: &mut [u8]) -> Arrived
 {
     wire::copy(out, 0, pdu);
     let heard = station::hear(station, pdu);
-    let after = heard.station;
     Arrived {
         far: Far {
             count,
-            station: after,
+            station: heard.station,
         },
-        answer: Arrival::Delivered {
+        answer: Ok(Arrival::Delivered {
             size: pdu.len(),
             answer: heard.answer,
-        },
+        }),
     }
 }
 
@@ -105,31 +102,31 @@ fn deliver(count: u32, station: Station, pdu: &[u8], out: &mut [u8]) -> Arrived
 pub fn arrive(far: Far, received: &[u8], reply: &mut [u8], out: &mut [u8]) -> Arrived
     ensures { ArrivalGives far received.now reply.old out.old result reply.new out.new }
 {
-    let n = records::arrival_refusal(received, reply.len(), out.len());
-    if n != 0 {
-        return Arrived {
-            far,
-            answer: Arrival::Refused(n),
-        };
-    }
-    let head = records::head_of(received);
-    let number = head.number;
+    let record = match records::check_arrival(received, reply.len(), out.len()) {
+        Ok(record) => record,
+        Err(refusal) => {
+            return Arrived {
+                far,
+                answer: Err(refusal),
+            };
+        }
+    };
+    let number = record.number();
     let count = far.count;
     let after = count_after(count, number);
     put_reply(reply, after);
     if is_next(count, number) {
-        let station = far.station;
-        return deliver(after, station, &received[records::HEAD_SIZE..], out);
+        return deliver(after, far.station, record.pdu(), out);
     }
-    if number < count {
-        return Arrived {
-            far,
-            answer: Arrival::Repeat,
-        };
-    }
+    // Two tests, not one `cmp`: `is_next` is a function that `next_number` and `other-number` hold to document 01.
+    let answer = if number < count {
+        Arrival::Repeat
+    } else {
+        Arrival::Early
+    };
     Arrived {
         far,
-        answer: Arrival::Early,
+        answer: Ok(answer),
     }
 }
 
@@ -138,13 +135,11 @@ pub fn arrive(far: Far, received: &[u8], reply: &mut [u8], out: &mut [u8]) -> Ar
 pub fn tick(far: Far, t: u64) -> Ticked
     ensures { result ≡ ticked far t }
 {
-    let station = far.station;
-    let heard = station::clock(station, t);
-    let after = heard.station;
+    let heard = station::clock(far.station, t);
     Ticked {
         far: Far {
-            count: far.count,
-            station: after,
+            station: heard.station,
+            ..far
         },
         answer: heard.answer,
     }

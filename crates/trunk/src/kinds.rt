@@ -1,10 +1,10 @@
 // The kinds of record: one table of what each carries, and what follows from it.
 ghost use Rattle.std.specs.Prelude.{◌≡◌, ◌≤◌};
-ghost use Rattle.trunk.specs.Kinds.{load, load_size, record_size, longest_record, is_unknown, is_nothing, kind_for, load_of_type};
-ghost use Rattle.trunk.specs.Kinds.{load_of_signal, kind_of, kind_carried};
+ghost use Rattle.trunk.specs.Kinds.{load, load_size, carried_size, record_size, longest_record, is_reply_load, kind_for, load_of_type};
+ghost use Rattle.trunk.specs.Kinds.{load_of_signal, load_of, kind_of, kind_carried};
 
 use crate::{Load, records};
-use pdu::{Carried, Reading};
+use pdu::Reading;
 
 const FIRST_WORDS: u8 = 0;
 
@@ -18,137 +18,126 @@ const TIMING_REPLY_KIND: u8 = 18;
 
 pub(crate) const REPLY_KIND: u8 = 32;
 
-// A number that is no kind.
-pub(crate) const NO_KIND: u16 = 256;
-
 // The longest PDU that the trunk carries, and the longest record.
 pub(crate) const LONGEST_PDU: usize = 180;
 
 pub const LONGEST_RECORD: usize = records::HEAD_SIZE + LONGEST_PDU;
 
-// What a record of this kind carries.
-pub fn load(kind: u8) -> Load
+// What a record of this kind carries, if it is a kind.
+#[tactic(auto, unfolding(crate::specs::Kinds::load))]
+pub fn load(kind: u8) -> Option<Load>
     ensures { result ≡ load kind }
 {
     match kind {
-        FIRST_WORDS..=LAST_WORDS => Load::Words((kind - FIRST_WORDS) as u16),
-        TRANSMITTER_KIND => Load::Transmitter,
-        INTERROGATION_KIND => Load::Interrogation,
-        TIMING_REPLY_KIND => Load::TimingReply,
-        REPLY_KIND => Load::Nothing,
-        _ => Load::Unknown,
+        FIRST_WORDS..=LAST_WORDS => Some(Load::Words(u16::from(kind - FIRST_WORDS))),
+        TRANSMITTER_KIND => Some(Load::Transmitter),
+        INTERROGATION_KIND => Some(Load::Interrogation),
+        TIMING_REPLY_KIND => Some(Load::TimingReply),
+        REPLY_KIND => Some(Load::Nothing),
+        _ => None,
     }
 }
 
-// How many bytes a load takes.
-fn load_size(load: Load) -> usize
-    ensures { result ≡ load_size load }
-{
-    match load {
-        Load::Words(n) => {
-            let bytes = pdu::BODY_START + pdu::BODY_HEADER + pdu::WORD_BYTES * n as usize;
-            (bytes + pdu::FILL - 1) / pdu::FILL * pdu::FILL
+impl Load {
+    // How many bytes it takes.
+    fn size(self) -> usize
+        ensures { result ≡ load_size self }
+    {
+        match self {
+            Load::Words(n) => {
+                // Not `signal_size`, whose bytes are a u16: a load may have any number of words.
+                let bytes = pdu::BODY_START + pdu::BODY_HEADER + pdu::WORD_BYTES * usize::from(n);
+                bytes.next_multiple_of(pdu::FILL)
+            }
+            Load::Transmitter => pdu::TRANSMITTER_SIZE,
+            Load::Interrogation | Load::TimingReply => pdu::rules::signal_size(
+                pdu::TIMING_BYTES as u16,
+            ),
+            Load::Nothing => 0,
         }
-        Load::Transmitter => pdu::TRANSMITTER_SIZE,
-        Load::Interrogation => pdu::rules::signal_size(pdu::TIMING_BYTES as u16),
-        Load::TimingReply => pdu::rules::signal_size(pdu::TIMING_BYTES as u16),
-        Load::Nothing => 0,
-        Load::Unknown => 0,
     }
+
+    // Its kind.
+    fn kind(self) -> u16
+        ensures { result ≡ kind_for self }
+    {
+        match self {
+            Load::Words(n) => u16::from(FIRST_WORDS) + n,
+            Load::Transmitter => u16::from(TRANSMITTER_KIND),
+            Load::Interrogation => u16::from(INTERROGATION_KIND),
+            Load::TimingReply => u16::from(TIMING_REPLY_KIND),
+            Load::Nothing => u16::from(REPLY_KIND),
+        }
+    }
+}
+
+// How many bytes a record of this kind carries; none where the kind is unknown, as `carried_size` and `record_size` (specs/Kinds) have it: the
+// lister reads on by it to the refusal.
+fn carried_size(kind: u8) -> usize
+    ensures { result ≡ carried_size kind }
+{
+    load(kind).map_or(0, Load::size)
 }
 
 // The length of a record of this kind; the head alone where the kind is unknown.
+#[tactic(auto, using(crate::proofs::KindLaws::record_small))]
 pub fn record_size(kind: u8) -> usize
     ensures { (result ≡ record_size kind) × (result ≤ longest_record) }
 {
-    records::HEAD_SIZE + load_size(load(kind))
-}
-
-// Whether a load is that of no row.
-pub(crate) fn is_unknown(load: Load) -> bool
-    ensures { result ≡ is_unknown load }
-{
-    match load {
-        Load::Words(_) => false,
-        Load::Transmitter => false,
-        Load::Interrogation => false,
-        Load::TimingReply => false,
-        Load::Nothing => false,
-        Load::Unknown => true,
-    }
+    records::HEAD_SIZE + carried_size(kind)
 }
 
 // Whether a load is that of a reply.
-pub(crate) fn is_nothing(load: Load) -> bool
-    ensures { result ≡ is_nothing load }
+pub(crate) fn is_reply_load(load: Option<Load>) -> bool
+    ensures { result ≡ is_reply_load load }
 {
-    match load {
-        Load::Words(_) => false,
-        Load::Transmitter => false,
-        Load::Interrogation => false,
-        Load::TimingReply => false,
-        Load::Nothing => true,
-        Load::Unknown => false,
-    }
-}
-
-// The kind of a load, or `NO_KIND`.
-fn kind_for(load: Load) -> u16
-    ensures { result ≡ kind_for load }
-{
-    match load {
-        Load::Words(n) => FIRST_WORDS as u16 + n,
-        Load::Transmitter => TRANSMITTER_KIND as u16,
-        Load::Interrogation => INTERROGATION_KIND as u16,
-        Load::TimingReply => TIMING_REPLY_KIND as u16,
-        Load::Nothing => REPLY_KIND as u16,
-        Load::Unknown => NO_KIND,
-    }
+    matches!(load, Some(Load::Nothing))
 }
 
 // What carries a message of this type that has no words.
-fn load_of_type(message_type: u8) -> Load
+fn load_of_type(message_type: u8) -> Option<Load>
     ensures { result ≡ load_of_type message_type }
 {
-    if message_type == pdu::INTERROGATION {
-        return Load::Interrogation;
+    match message_type {
+        pdu::INTERROGATION => Some(Load::Interrogation),
+        pdu::TIMING_REPLY => Some(Load::TimingReply),
+        _ => None,
     }
-    if message_type == pdu::TIMING_REPLY {
-        return Load::TimingReply;
-    }
-    Load::Unknown
 }
 
-// What carries a Signal of this message type with a body of n bytes.
-fn load_of_signal(message_type: u8, n: u16) -> Load
+// What carries a Signal of this message type with a body of n bytes. Its words are counted in a u16, as the size of a body is: `pdu::rules::words_in`
+// counts in a usize, which would be narrowed here, no plainer.
+fn load_of_signal(message_type: u8, n: u16) -> Option<Load>
     ensures { result ≡ load_of_signal message_type n }
 {
     if message_type != 0 {
         return load_of_type(message_type);
     }
-    if n < pdu::BODY_HEADER as u16 {
-        return Load::Words(0);
-    }
-    Load::Words((n - pdu::BODY_HEADER as u16) / pdu::WORD_BYTES as u16)
+    let words = n.saturating_sub(pdu::BODY_HEADER as u16) / pdu::WORD_BYTES as u16;
+    Some(Load::Words(words))
 }
 
-// The kind that carries what reading answered, or `NO_KIND`.
-pub(crate) fn kind_of(answer: Reading) -> u16
-    ensures { result ≡ kind_of answer }
+// What carries what reading answered; nothing carries a refusal.
+fn load_of(answer: Reading) -> Option<Load>
+    ensures { result ≡ load_of answer }
 {
     match answer {
-        Reading::Refused(_) => kind_for(Load::Unknown),
-        Reading::Transmitter(_) => kind_for(Load::Transmitter),
-        Reading::Signal(s, n) => kind_for(load_of_signal(s.network.message_type, n)),
+        Reading::Refused(_) => None,
+        Reading::Transmitter(_) => Some(Load::Transmitter),
+        Reading::Signal(s, n) => load_of_signal(s.network.message_type, n),
     }
 }
 
-// The kind of what bytes hold that should be in written form, or `NO_KIND`.
-pub(crate) fn kind_of_carried(carried: Carried) -> u16
+// The kind that carries what reading answered. (A byte has room for each kind of the table; a Signal that was not read may have more words.)
+pub(crate) fn kind_of(answer: Reading) -> Option<u16>
+    ensures { result ≡ kind_of answer }
+{
+    load_of(answer).map(Load::kind)
+}
+
+// The kind of what bytes hold that should be in written form.
+pub(crate) fn kind_of_carried(carried: Option<Reading>) -> Option<u16>
     ensures { result ≡ kind_carried carried }
 {
-    match carried {
-        Carried::Other => NO_KIND,
-        Carried::Pdu(answer) => kind_of(answer),
-    }
+    carried.and_then(kind_of)
 }

@@ -2,7 +2,7 @@
 // Only the promises of reading, writing and the station's step are used from below.
 #![tactic(auto)]
 
-use station::Station;
+use station::{Answer, BadSettings, Station};
 
 pub mod far_end;
 pub mod kinds;
@@ -10,16 +10,16 @@ pub mod near_end;
 pub mod records;
 mod refusals;
 
-// What a record carries behind its head: a type 0 Signal of so many words, a Transmitter, round-trip timing (request R-1), or nothing; or its kind
-// is unknown.
-#[derive(Clone, Copy)]
+pub use refusals::Refusal;
+
+// What a record carries behind its head: a type 0 Signal of so many words, a Transmitter, round-trip timing (request R-1), or nothing.
+#[derive(Clone, Copy, Debug, PartialEq, Eq)]
 pub enum Load {
     Words(u16),
     Transmitter,
     Interrogation,
     TimingReply,
     Nothing,
-    Unknown,
 }
 
 // A record's head.
@@ -36,53 +36,26 @@ pub struct Near {
     acknowledged: u32,
 }
 
-// A slice walked from the front (request R-5): the number that stops it, or 0, and how many PDUs stand before that.
-#[derive(Clone, Copy)]
-struct Walk {
-    stop: u8,
-    pdus: usize,
-}
-
-// What an offer answers: a refusal, or the number that its first PDU took.
-#[derive(Clone, Copy)]
-pub enum Offer {
-    Refused(u8),
-    Taken(u32),
-}
-
-// The near end after an offer, and its answer.
+// The near end after an offer, and its answer: the number that its first PDU took. This and five more below are an end beside an answer: a
+// generic pair under them would be no plainer, since `offered`, `sent`, `replied`, `made_far`, `arrived` and `ticked` name these types.
 #[derive(Clone, Copy)]
 pub struct Offered {
     pub near: Near,
-    pub answer: Offer,
+    pub answer: Result<u32, Refusal>,
 }
 
-// What a send answers: a refusal, or the bytes written.
-#[derive(Clone, Copy)]
-pub enum Sent {
-    Refused(u8),
-    Size(usize),
-}
-
-// The near end after a send, which leaves it as it was, and its answer.
+// The near end after a send, which leaves it as it was, and its answer: the bytes written.
 #[derive(Clone, Copy)]
 pub struct Sending {
     pub near: Near,
-    pub answer: Sent,
+    pub answer: Result<usize, Refusal>,
 }
 
-// What taking a reply answers: a refusal, or the acknowledged count after it.
-#[derive(Clone, Copy)]
-pub enum Reply {
-    Refused(u8),
-    Acknowledged(u32),
-}
-
-// The near end after a reply, and its answer.
+// The near end after a reply, and its answer: the acknowledged count after it.
 #[derive(Clone, Copy)]
 pub struct Replied {
     pub near: Near,
-    pub answer: Reply,
+    pub answer: Result<u32, Refusal>,
 }
 
 // The far end: how many PDUs were delivered, and the station that hears them. Only calls make one.
@@ -92,18 +65,17 @@ pub struct Far {
     station: Station,
 }
 
-// What a maker of far ends answers: 0, or 37 with a station of level 0, net 0, 1 exchange and the usual limit.
+// What a maker of far ends answers: 37 comes with a station of level 0, net 0, 1 exchange and the usual limit.
 #[derive(Clone, Copy)]
 pub struct MadeFar {
     pub far: Far,
-    pub answer: u8,
+    pub answer: Result<(), BadSettings>,
 }
 
-// What a record's arrival answers: a refusal; delivered, with the PDU's size and the station's answer; a repeat; or early.
-#[derive(Clone, Copy)]
+// What becomes of a record that is not refused: delivered, with the PDU's size and the station's answer; a repeat; or early.
+#[derive(Clone, Copy, Debug, PartialEq, Eq)]
 pub enum Arrival {
-    Refused(u8),
-    Delivered { size: usize, answer: u8 },
+    Delivered { size: usize, answer: Answer },
     Repeat,
     Early,
 }
@@ -112,20 +84,20 @@ pub enum Arrival {
 #[derive(Clone, Copy)]
 pub struct Arrived {
     pub far: Far,
-    pub answer: Arrival,
+    pub answer: Result<Arrival, Refusal>,
 }
 
 // The far end after a clock, and its station's answer.
 #[derive(Clone, Copy)]
 pub struct Ticked {
     pub far: Far,
-    pub answer: u8,
+    pub answer: Answer,
 }
 
-// What checking a record answers: a refusal; a reply or a PDU record, with its number and the record's size.
-#[derive(Clone, Copy)]
+// A record that a check took: a reply or a PDU record, with its number and the record's size. The kind stays a number: `taken` and `checked_says`
+// (specs/Record) name it.
+#[derive(Clone, Copy, Debug, PartialEq, Eq)]
 pub enum Checked {
-    Refused(u8),
     Reply { number: u32, size: u16 },
     Pdu { kind: u8, number: u32, size: u16 },
 }

@@ -1,18 +1,18 @@
-// The near end: offering, sending and taking a reply.
-ghost use Rattle.std.specs.Prelude.{◌≡◌, ◌+◌, ◌-◌, ◌≤◌, length};
+// The near end: offering, sending and taking a reply. Ends are handed in and back by value: docs/AUDIT.md (question 4) names these calls, and
+// the steps of `Line` (specs) are over such values.
+ghost use Rattle.std.specs.Prelude.{◌≡◌, ◌+◌, ◌-◌, ◌≤◌, length, IfOk, Some};
 ghost use Rattle.wire.specs.Bytes.{splice};
 ghost use Rattle.wire.specs.First.{first};
 ghost use Rattle.pdu.specs.Reading.{reading, used};
 ghost use Rattle.pdu.specs.Writing.{written_form};
-ghost use Rattle.trunk.specs.Kinds.{kind_of, no_kind, longest_pdu, longest_record};
-ghost use Rattle.trunk.specs.Record.{record_of, last_number};
-ghost use Rattle.trunk.specs.Bundle.{stop_of, slice_stop, bundle_stop, bundle};
-ghost use Rattle.trunk.specs.Near.{row_size, store_size, fresh_near, row_start, offer_rules_of, stored, stored_all, send_rules, acknowledged_after};
+ghost use Rattle.trunk.specs.Refusals.{refused};
+ghost use Rattle.trunk.specs.Kinds.{kind_of, longest_pdu, longest_record, record_size};
+ghost use Rattle.trunk.specs.Record.{last_number};
+ghost use Rattle.trunk.specs.Bundle.{stop_of, bundle_stop, bundle};
+ghost use Rattle.trunk.specs.Near.{row_size, store_size, fresh_near, row_start, offer_rules, offer_record, stored, stored_all, row_kind, send_rules};
 ghost use Rattle.trunk.specs.Near.{OfferGives, SendGives, ReplyGives};
 
-use crate::{
-    Head, Near, Offer, Offered, Replied, Reply, Sending, Sent, Walk, kinds, records, refusals,
-};
+use crate::{Head, Load, Near, Offered, Refusal, Replied, Sending, kinds, records};
 use pdu::Reading;
 
 const ROWS: u32 = 8;
@@ -20,6 +20,7 @@ const ROWS: u32 = 8;
 // The most PDUs that one offer takes.
 const MOST_PDUS: usize = 8;
 
+// Rows in a slice, not an array of rows: the store is the caller's bytes (document 01).
 const ROW_SIZE: usize = 192;
 
 pub const STORE_SIZE: usize = ROWS as usize * ROW_SIZE;
@@ -48,6 +49,13 @@ pub fn acknowledged(near: Near) -> u32
     near.acknowledged
 }
 
+// How many PDUs are accepted and not acknowledged.
+fn unacknowledged(near: Near) -> u32
+    ensures { result ≡ near.accepted - near.acknowledged }
+{
+    near.accepted.saturating_sub(near.acknowledged)
+}
+
 // Where the row of a number starts.
 fn row_start(number: u32) -> usize
     ensures { (result ≡ row_start number) × (result + row_size ≤ store_size) }
@@ -55,125 +63,126 @@ fn row_start(number: u32) -> usize
     ROW_SIZE * (number % ROWS) as usize
 }
 
-// The number that stops a PDU, by what reading answered, or 0.
-#[tactic(auto, unfolding(crate::specs::Bundle::stop_of))]
-fn stop_of(answer: Reading) -> u8
-    ensures { result ≡ stop_of answer }
-{
-    let n = reader::number(answer);
-    if n != 0 {
-        return n;
-    }
-    if kinds::kind_of(answer) == kinds::NO_KIND {
-        return refusals::NOT_CARRIED;
-    }
-    0
+// The first PDU of a slice, as it was read, and the kind under which the trunk carries it.
+#[derive(Clone, Copy)]
+struct Carried<'a> {
+    kind: u8,
+    answer: Reading,
+    datagram: &'a [u8],
+    ghost read: { answer ≡ reading datagram.now },
+    ghost carried: { kind_of (reading datagram.now) ≡ Some kind },
 }
 
-// Walks a slice from the front, PDU by PDU, to its end or to the first that is stopped.
-fn walk(datagram: &[u8]) -> Walk
-    ensures { (result.stop ≡ slice_stop datagram.now) × (result.pdus ≡ length (bundle datagram.now)) }
-{
-    let mut at = 0;
-    let mut pdus = 0;
-    while at < datagram.len() {
-        let answer = reader::read(&datagram[at..]);
-        let stop = stop_of(answer);
-        if stop != 0 {
-            return Walk { stop, pdus };
+impl<'a> Carried<'a> {
+    // A slice's first PDU, or what stops it.
+    #[tactic(auto, unfolding(crate::specs::Bundle::stop_of))]
+    fn first(datagram: &'a [u8]) -> Result<Carried<'a>, Refusal>
+        ensures stop { refused result ≡ stop_of (reading datagram.now) }
+        ensures datagram { IfOk result (λ p. p.datagram.now ≡ datagram.now) }
+    {
+        let answer = reader::read(datagram);
+        if let Reading::Refused(refusal) = answer {
+            return Err(refusal.into());
         }
-        at += reader::size(answer) as usize;
+        let Some(kind) = kinds::kind_of(answer) else {
+            return Err(Refusal::NotCarried);
+        };
+        let kind = kind as u8;
+        Ok(Carried {
+            kind,
+            answer,
+            datagram,
+        })
+    }
+
+    // How many bytes of the slice it used.
+    fn size(&self) -> usize
+        ensures { result ≡ used self.now.datagram.now }
+    {
+        reader::size(self.answer) as usize
+    }
+
+    // Writes it from the start of `out`, as the writer gives it.
+    fn put(&self, out: &mut [u8])
+        requires { longest_pdu ≤ length out.old }
+        ensures { out.new ≡ splice 0 (written_form self.now.datagram.now) out.old }
+    {
+        match self.answer {
+            // None is here, since nothing carries a refusal.
+            Reading::Refused(_) => unreachable!(),
+            Reading::Transmitter(t) => {
+                let _ = writer::write_transmitter(t, out);
+            }
+            Reading::Signal(s, n) => {
+                let end = pdu::BODY_START + usize::from(n);
+                let _ = writer::write_signal(s, &self.datagram[pdu::BODY_START..end], out);
+            }
+        }
+    }
+
+    // Writes its record under this number from the start of a row.
+    fn put_record(&self, row: &mut [u8], number: u32)
+        requires { longest_record ≤ length row.old }
+        ensures { row.new ≡ splice 0 (offer_record number self.now.datagram.now) row.old }
+    {
+        let head = Head {
+            kind: self.kind,
+            number,
+        };
+        records::put_head(row, head);
+        self.put(&mut row[records::HEAD_SIZE..]);
+    }
+
+    // Writes its record into the row of this number.
+    fn store(&self, store: &mut [u8], number: u32)
+        requires { length store.old ≡ store_size }
+        ensures { store.new ≡ stored number store.old self.now.datagram.now }
+    {
+        let start = row_start(number);
+        self.put_record(&mut store[start..start + ROW_SIZE], number);
+    }
+}
+
+// How many PDUs a slice that is offered has, from the front to its end, or what stops one of them; an empty slice is too short. `put_bundle` walks
+// the slice once more, since an offer is taken whole or not at all. Both count by hand: here the count is the answer, there it is a PDU's number.
+fn count_pdus(datagram: &[u8]) -> Result<usize, Refusal>
+    ensures stop { refused result ≡ bundle_stop datagram.now }
+    ensures pdus { IfOk result (λ n. n ≡ length (bundle datagram.now)) }
+{
+    if datagram.is_empty() {
+        return Err(pdu::Refusal::Short.into());
+    }
+    let mut rest = datagram;
+    let mut pdus = 0;
+    while !rest.is_empty() {
+        let pdu = Carried::first(rest)?;
+        rest = &rest[pdu.size()..];
         pdus += 1;
     }
-    Walk { stop: 0, pdus }
+    Ok(pdus)
 }
 
-// The same of a slice that is offered: an empty one is too short.
-fn bundle_of(datagram: &[u8]) -> Walk
-    ensures { (result.stop ≡ bundle_stop datagram.now) × (result.pdus ≡ length (bundle datagram.now)) }
+// How many PDUs an offer takes, or the first rule that it breaks.
+#[tactic(auto, unfolding(crate::specs::Near::offer_rules_of), using(crate::proofs::RefusalLaws::some_number))]
+fn check_offer(near: Near, store: &[u8], datagram: &[u8]) -> Result<u32, Refusal>
+    ensures first { refused result ≡ first (offer_rules near store.now datagram.now) }
+    ensures pdus { IfOk result (λ n. n ≡ length (bundle datagram.now)) }
 {
-    if datagram.len() == 0 {
-        return Walk {
-            stop: pdu::refusals::SHORT,
-            pdus: 0,
-        };
+    if store.len() != STORE_SIZE {
+        return Err(Refusal::StoreSize);
     }
-    walk(datagram)
-}
-
-// The number of the first broken rule of an offer, by the number that stops its slice and how many PDUs that has, or 0.
-#[tactic(auto, unfolding(crate::specs::Near::offer_rules_of))]
-fn offer_refusal(near: Near, store_length: usize, stop: u8, pdus: usize) -> u8
-    ensures { result ≡ first (offer_rules_of near store_length stop pdus) }
-{
-    if store_length != STORE_SIZE {
-        return refusals::STORE_SIZE;
-    }
-    if stop != 0 {
-        return stop;
-    }
+    let pdus = count_pdus(datagram)?;
     if pdus > MOST_PDUS {
-        return refusals::MANY_PDUS;
+        return Err(Refusal::ManyPdus);
     }
     let more = pdus as u32;
     if records::LAST_NUMBER - near.accepted < more {
-        return refusals::RECORD_NUMBER;
+        return Err(Refusal::RecordNumber);
     }
     if unacknowledged(near) + more > ROWS {
-        return refusals::WINDOW_FULL;
+        return Err(Refusal::WindowFull);
     }
-    0
-}
-
-// How many PDUs are accepted and not acknowledged.
-fn unacknowledged(near: Near) -> u32
-    ensures { result ≡ near.accepted - near.acknowledged }
-{
-    if near.accepted < near.acknowledged {
-        return 0;
-    }
-    near.accepted - near.acknowledged
-}
-
-// Writes the PDU of a taken datagram, by what reading answered, from the start of `out`, as the writer gives it.
-fn put_pdu(out: &mut [u8], answer: Reading, datagram: &[u8])
-    requires { (longest_pdu ≤ length out.old) × (answer ≡ reading datagram.now) × (kind_of (reading datagram.now) ≡ no_kind → ⊥) }
-    ensures { out.new ≡ splice 0 (written_form datagram.now) out.old }
-{
-    match answer {
-        Reading::Refused(_) => {}
-        Reading::Transmitter(t) => {
-            writer::write_transmitter(t, out);
-        }
-        Reading::Signal(s, n) => {
-            let end = pdu::BODY_START + n as usize;
-            writer::write_signal(s, &datagram[pdu::BODY_START..end], out);
-        }
-    }
-}
-
-// Writes a record from the start of a row.
-fn put_record(row: &mut [u8], head: Head, answer: Reading, datagram: &[u8])
-    requires { (longest_record ≤ length row.old) × (answer ≡ reading datagram.now) × (kind_of (reading datagram.now) ≡ no_kind → ⊥) }
-    ensures { row.new ≡ splice 0 (record_of head (written_form datagram.now)) row.old }
-{
-    records::put_head(row, head);
-    put_pdu(&mut row[records::HEAD_SIZE..], answer, datagram);
-}
-
-// Writes the record of a slice's first PDU into the row of its number, and answers how many bytes of the slice the PDU used.
-fn put_first(store: &mut [u8], number: u32, datagram: &[u8]) -> usize
-    requires { (length store.old ≡ store_size) × (kind_of (reading datagram.now) ≡ no_kind → ⊥) }
-    ensures { (result ≡ used datagram.now) × (store.new ≡ stored number store.old datagram.now) }
-{
-    let answer = reader::read(datagram);
-    let start = row_start(number);
-    let head = Head {
-        kind: kinds::kind_of(answer) as u8,
-        number,
-    };
-    put_record(&mut store[start..start + ROW_SIZE], head, answer, datagram);
-    reader::size(answer) as usize
+    Ok(more)
 }
 
 // Writes the records of a bundle's PDUs, each into the row of its number, from this number on.
@@ -181,10 +190,11 @@ fn put_bundle(store: &mut [u8], number: u32, datagram: &[u8])
     requires { (length store.old ≡ store_size) × (bundle_stop datagram.now ≡ 0) × (number + length (bundle datagram.now) ≤ last_number) }
     ensures { store.new ≡ stored_all number store.old (bundle datagram.now) }
 {
-    let mut from = 0;
+    let mut left = datagram;
     let mut next = number;
-    while from < datagram.len() {
-        from += put_first(store, next, &datagram[from..]);
+    while let Ok(pdu) = Carried::first(left) {
+        pdu.store(store, next);
+        left = &left[pdu.size()..];
         next += 1;
     }
 }
@@ -194,48 +204,50 @@ fn put_bundle(store: &mut [u8], number: u32, datagram: &[u8])
 pub fn offer(near: Near, store: &mut [u8], datagram: &[u8]) -> Offered
     ensures { OfferGives near store.old datagram.now result store.new }
 {
-    let walk = bundle_of(datagram);
-    let n = offer_refusal(near, store.len(), walk.stop, walk.pdus);
-    if n != 0 {
-        return Offered {
-            near,
-            answer: Offer::Refused(n),
-        };
-    }
     let number = near.accepted;
-    put_bundle(store, number, datagram);
-    Offered {
-        near: Near {
-            accepted: number + walk.pdus as u32,
-            acknowledged: near.acknowledged,
+    match check_offer(near, store, datagram) {
+        Err(refusal) => Offered {
+            near,
+            answer: Err(refusal),
         },
-        answer: Offer::Taken(number),
+        Ok(pdus) => {
+            put_bundle(store, number, datagram);
+            Offered {
+                near: Near {
+                    accepted: number + pdus,
+                    ..near
+                },
+                answer: Ok(number),
+            }
+        }
     }
 }
 
-// The number of the first broken rule of a send, or 0.
+// How long the record of number i is, or the first rule that sending it breaks.
 #[tactic(auto, unfolding(crate::specs::Near::send_rules))]
-fn send_refusal(near: Near, store: &[u8], i: u32, room: usize) -> u8
-    ensures { result ≡ first (send_rules near store.now i room) }
+fn check_send(near: Near, store: &[u8], i: u32, room: usize) -> Result<usize, Refusal>
+    ensures first { refused result ≡ first (send_rules near store.now i room) }
+    ensures size { IfOk result (λ n. n ≡ record_size (row_kind store.now i)) }
 {
     if store.len() != STORE_SIZE {
-        return refusals::STORE_SIZE;
+        return Err(Refusal::StoreSize);
     }
-    if wire::no(wire::both(near.acknowledged <= i, i < near.accepted)) {
-        return refusals::NOT_HELD;
+    if !(near.acknowledged..near.accepted).contains(&i) {
+        return Err(Refusal::NotHeld);
     }
     let kind = records::kind_at(store, row_start(i));
-    let load = kinds::load(kind);
-    if kinds::is_unknown(load) {
-        return refusals::RECORD_KIND;
+    let Some(load) = kinds::load(kind) else {
+        return Err(Refusal::RecordKind);
+    };
+    if load == Load::Nothing {
+        return Err(Refusal::WrongDirection);
     }
-    if kinds::is_nothing(load) {
-        return refusals::WRONG_DIRECTION;
+    // By the kind once more, as `record_size` (specs/Kinds) has it.
+    let size = kinds::record_size(kind);
+    if room < size {
+        return Err(pdu::Refusal::NoRoom.into());
     }
-    if room < kinds::record_size(kind) {
-        return pdu::refusals::NO_ROOM;
-    }
-    0
+    Ok(size)
 }
 
 // Sends number i: its record, as its row of the store has it, from the start of `out`. The near end stays as it was.
@@ -243,21 +255,12 @@ fn send_refusal(near: Near, store: &[u8], i: u32, room: usize) -> u8
 pub fn send(near: Near, store: &[u8], i: u32, out: &mut [u8]) -> Sending
     ensures { SendGives near store.now i out.old result out.new }
 {
-    let n = send_refusal(near, store, i, out.len());
-    if n != 0 {
-        return Sending {
-            near,
-            answer: Sent::Refused(n),
-        };
+    let answer = check_send(near, store, i, out.len());
+    if let Ok(size) = answer {
+        let start = row_start(i);
+        wire::copy(out, 0, &store[start..start + size]);
     }
-    let start = row_start(i);
-    let size = kinds::record_size(records::kind_at(store, start));
-    let end = start + size;
-    wire::copy(out, 0, &store[start..end]);
-    Sending {
-        near,
-        answer: Sent::Size(size),
-    }
+    Sending { near, answer }
 }
 
 // Takes a reply: a number below the acknowledged count changes nothing, any other becomes that count.
@@ -265,27 +268,20 @@ pub fn send(near: Near, store: &[u8], i: u32, out: &mut [u8]) -> Sending
 pub fn take_reply(near: Near, received: &[u8]) -> Replied
     ensures { ReplyGives near received.now result }
 {
-    let n = records::reply_refusal(near, received);
-    if n != 0 {
-        return Replied {
+    match records::check_reply(near, received) {
+        Err(refusal) => Replied {
             near,
-            answer: Reply::Refused(n),
-        };
-    }
-    let head = records::head_of(received);
-    let count = later(near.acknowledged, head.number);
-    Replied {
-        near: Near {
-            accepted: near.accepted,
-            acknowledged: count,
+            answer: Err(refusal),
         },
-        answer: Reply::Acknowledged(count),
+        Ok(number) => {
+            let count = near.acknowledged.max(number);
+            Replied {
+                near: Near {
+                    acknowledged: count,
+                    ..near
+                },
+                answer: Ok(count),
+            }
+        }
     }
-}
-
-// The acknowledged count after a reply with this number.
-fn later(count: u32, number: u32) -> u32
-    ensures { result ≡ acknowledged_after count number }
-{
-    if number < count { count } else { number }
 }

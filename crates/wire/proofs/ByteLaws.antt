@@ -6,14 +6,14 @@ use mathlib.Core.Path.{◌≡◌, refl, sym, ap, ap₂, subst, ◌∙◌}
 use mathlib.Core.Bool.{Bool, true, false, ◌&&◌}
 use mathlib.Core.List.{List, [], ◌∷◌, ◌++◌, append_assoc, append-nil}
 use lib.ListN.{length, get_or, take, drop, set, replicate, length-append, length-drop}
-use lib.Seq.{get_or-append-add, get_or_at, get_or-drop, take-suc, length-take-le, sets-eq}
+use lib.Seq.{get_or-append-add, get_or_at, get_or-drop, take-suc, sets-eq}
 use lib.Arith.{digits_div, digits_mod, mod-mul}
 use lib.Dec.{eqb}
 use native.Mathlib.Nat.{add-zero, add-suc, suc-add, add_assoc, mod-one, pow-suc, zero-add}
 use native.Mathlib.Numerals.{add-one}
 use native.Mathlib.Omega.{arith}
 use borrow.Author.Tests.{eq-eqb, ne_eqb}
-use Rattle.wire.specs.Bytes.{num, big, row, splice, all_zero, Bytes}
+use Rattle.wire.specs.Bytes.{num, big, splice, all_zero, Bytes}
 
 pub length-big : (w v : ℕ) → length (big w v) ≡ w
 length-big zero v = refl
@@ -37,19 +37,6 @@ beside at n a b l long second first =
     second
     ∙ ap₂ (λ (k : ℕ) (m : List ℕ). splice (at + k) b m) (sym long) first
     ∙ splice-append at a b l
-
--- three numbers of w bytes written side by side
-pub three_beside : {x y z : List ℕ} (w at a b c : ℕ) (l : List ℕ)
-    → x ≡ splice at (big w a) l
-    → y ≡ splice (at + w) (big w b) x
-    → z ≡ splice (at + (w + w)) (big w c) y
-    → z ≡ splice at (row w (a ∷ b ∷ c ∷ [])) l
-three_beside w at a b c l first second third =
-    let pair : length (big w a ++ big w b) ≡ w + w =
-    length-append (big w a) (big w b) ∙ ap₂ ◌+◌ (length-big w a) (length-big w b) in
-    beside at (w + w) (big w a ++ big w b) (big w c) l pair third (beside at w (big w a) (big w b) l (length-big w a) second first)
-    ∙ ap (λ (bytes : List ℕ). splice at bytes l)
-    (append_assoc (big w a) (big w b) (big w c) ∙ ap (λ (rest : List ℕ). big w a ++ (big w b ++ rest)) (sym (append-nil (big w c))))
 
 -- a number behind a prefix is read as from its own start
 pub num-append : (w i : ℕ) (p q : List ℕ) → num w (length p + i) (p ++ q) ≡ num w i q
@@ -127,13 +114,6 @@ num-split a (suc b) o d =
     ap (λ (w : ℕ). num w o d) (add-suc a b)
     ∙ ap₂ (λ (m n : ℕ). m * 256 + get_or d n 0) (num-split a b o d) (sym (add_assoc o a b))
     ∙ rw (pow-suc 256 b) (omega arith)
-
--- a turn of a loop that splices byte by byte: one more byte of s
-pub splice_more : (at i : ℕ) (s l : List ℕ) → i < length s → set (splice at (take i s) l) (at + i) (get_or s i 0) ≡ splice at (take (i + 1) s) l
-splice_more at i s l h =
-    ap (λ (n : ℕ). set (splice at (take i s) l) (at + n) (get_or s i 0)) (sym (length-take-le i s (omega arith)))
-    ∙ splice-append at (take i s) (get_or s i 0 ∷ []) l
-    ∙ ap (λ (b : List ℕ). splice at b l) (sym (take-suc s i 0 h) ∙ ap (λ (n : ℕ). take n s) (sym (add-one i)))
 
 -- a splice from a buffer's start, said as bytes and what stood behind them
 pub splice-start : (b l : List ℕ) → length b ≤ length l → splice 0 b l ≡ b ++ drop (length b) l

@@ -1,5 +1,6 @@
 -- The laws of the wire that the crates above cite.
 pub mod ByteLaws
+pub mod RowLaws
 pub mod TableLaws
 pub mod FirstLaws
 pub mod RuleLaws

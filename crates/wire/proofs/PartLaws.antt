@@ -8,9 +8,10 @@ use mathlib.Core.List.{List, [], ◌∷◌, ◌++◌, append_assoc}
 use lib.ListN.{length, get_or, take, drop, length-take, length-drop, take-append-drop}
 use lib.Seq.{take_all, get_or-take, get_or-drop, sets-eq, drop-drop, length-take-le, drop-append-le}
 use lib.Dec.{eqb}
-use native.Mathlib.Nat.{add_assoc, add-suc}
+use native.Mathlib.Nat.{add-zero, add_assoc, add-suc}
 use native.Mathlib.Omega.{arith}
 use borrow.Author.Tests.{eqb-true, eqb-false}
+use borrow.Rule.Slice.PartMut.{put_mid}
 use Rattle.wire.specs.Bytes.{num, splice, all_zero}
 use Rattle.wire.proofs.ByteLaws.{splice-start, each_zero}
 use Rattle.wire.proofs.TableLaws.{both_true}
@@ -69,6 +70,13 @@ zero-end w o d whole = by (eqb (num w o d) 0) refl
         some false e = refl
         some true e = elim (eqb-false _ _ t (zero_of_bytes w o d (λ i l. sym (place i) ∙ all_zero_lem (drop o d) e i))) [ ]
 
+-- and so is the number in a part
+pub zero_part : (w o : ℕ) (d : List ℕ) → o + w ≤ length d → all_zero (take w (drop o d)) ≡ eqb (num w o d) 0
+zero_part w o d fits =
+    let long : length (take w (drop o d)) ≡ w = length-take-le w (drop o d) (omega (arith, length-drop o d)) in
+    zero-end w 0 (take w (drop o d)) (omega (arith, long))
+    ∙ ap (λ (n : ℕ). eqb n 0) (num-part w 0 w o d (omega arith) ∙ ap (λ (k : ℕ). num w k d) (add-zero o))
+
 -- a lent part that was spliced from its start, back in the whole
 pub part-splice :
     (a k : ℕ) (b xs : List ℕ)
@@ -86,3 +94,15 @@ part-splice a k b xs fits room =
     ∙ drop-drop (length b) a xs)
     ∙ sym (append_assoc (take a xs) b (drop (a + length b) xs))
     ∙ sym (sets-eq b xs a (omega arith))
+
+-- a lent part that was written over whole, back in the whole
+pub part_put : (at k : ℕ) (b xs part : List ℕ)
+    → part ≡ b
+    → k ≡ length b
+    → at + length b ≤ length xs
+    → put_mid at k xs part ≡ splice at b xs
+part_put at k b xs part same whole fits =
+    ap (put_mid at k xs) same
+    ∙ sym (append_assoc (take at xs) b (drop k (drop at xs)))
+    ∙ ap (λ (l : List ℕ). take at xs ++ b ++ l) (drop-drop k at xs ∙ ap (λ (n : ℕ). drop (at + n) xs) whole)
+    ∙ sym (sets-eq b xs at fits)

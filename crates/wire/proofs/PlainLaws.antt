@@ -3,14 +3,15 @@
 -- Assumes nothing.
 use Prim.Native.Nat.{ℕ, zero, suc, ◌+◌, ◌/◌, ◌%◌, ◌≤◌, ◌<◌}
 use mathlib.Core.Path.{◌≡◌, refl, sym, ap, ◌∙◌}
-use mathlib.Core.Bool.{true, false, true≢false}
+use mathlib.Core.Bool.{Bool, true, false, true≢false}
 use mathlib.Core.List.{List, [], ◌∷◌, ◌++◌}
+use Rattle.std.specs.Prelude.{◌↔◌}
 use lib.ListN.{length, get_or, set, length-set}
 use lib.Seq.{length-sets, get_or-set_same, get_or-set_other}
 use borrow.Author.Tests.{ne_eqb}
 use native.Mathlib.Nat.{add-zero, add-suc, suc-add}
 use native.Mathlib.Omega.{arith}
-use Rattle.wire.specs.Bytes.{splice}
+use Rattle.wire.specs.Bytes.{splice, all_zero}
 use Rattle.wire.specs.First.{Refusal, ◌given_when◌, first}
 use Rattle.wire.specs.Plain.{byte, Numbers, Written, Spliced, ZeroTest, Unbroken, FirstGiven, Said, Sampled}
 use Rattle.wire.proofs.ByteLaws.{num-split, big_halves, each_zero}
@@ -69,6 +70,15 @@ spliced at bytes buffer = record {
 
 pub zero_test : (d : List ℕ) → ZeroTest d
 zero_test d = (λ e i l. all_zero_lem d e i, each_zero d)
+
+-- any test that says so is that test
+pub zero_test_of : (b : Bool) (d : List ℕ) → (b ≡ true) ↔ ((i : ℕ) → i < length d → get_or d i 0 ≡ 0) → b ≡ all_zero d
+zero_test_of true d h = sym (each_zero d (h.0 refl))
+zero_test_of false d h = by (all_zero d) refl
+  where
+    by : (z : Bool) → all_zero d ≡ z → false ≡ z
+    by false e = refl
+    by true e = h.1 (λ i l. all_zero_lem d e i)
 
 -- ---- refusals in order
 

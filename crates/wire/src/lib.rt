@@ -1,214 +1,153 @@
-// Big-endian numbers in byte slices, writing over a part of a buffer, and tests joined without branches.
+// Big-endian numbers in byte slices, and writing over a part of a buffer.
 // Internal: the crates above are proved to meet each `requires`.
+// A place and a width belong to the call and not to the slice: a type for them, made anew for each call, would be no plainer than `at + w ≤ length`.
 #![tactic(auto)]
 
-ghost use Rattle.std.specs.Prelude.{◌≡◌, not, ◌&&◌, ◌||◌, [], ◌∷◌, ◌++◌, ◌+◌, ◌≤◌, ◌<◌, length, replicate};
+ghost use Rattle.std.specs.Prelude.{ℕ, ◌≡◌, map, ◌+◌, ◌*◌, ◌≤◌, length, replicate};
 ghost use Rattle.wire.specs.Bytes.{num, big, row, splice, all_zero};
 
-// A byte as a wider number.
-fn wide16(b: u8) -> u16
-    ensures { (result ≡ b) × (result < 256) }
-{
-    b as u16
+// An unsigned number that stands in bytes, most significant first (01: numbers are big-endian).
+pub trait BigEndian: Copy {
+    // How many bytes it takes.
+    const WIDTH: usize;
+
+    ghost WIDTH: { ℕ };
+
+    // The number that a value is.
+    ghost number: { Self → ℕ };
+
+    fn read(d: &[u8], at: usize) -> Self
+        requires { at + WIDTH ≤ length d.now }
+        ensures { number result ≡ num WIDTH at d.now };
+
+    fn write(self, out: &mut [u8], at: usize)
+        requires { at + WIDTH ≤ length out.old }
+        ensures { out.new ≡ splice at (big WIDTH (number self)) out.old };
 }
 
-fn wide32(b: u8) -> u32
-    ensures { (result ≡ b) × (result < 256) }
-{
-    b as u32
+// Four alike, and no macro: the toolchain takes no `impl` that a macro of the repository writes.
+impl BigEndian for u8 {
+    const WIDTH: usize = 1;
+
+    ghost WIDTH = { 1 };
+
+    ghost number = { λ v. v };
+
+    fn read(d: &[u8], at: usize) -> u8 {
+        d[at]
+    }
+
+    fn write(self, out: &mut [u8], at: usize) {
+        out[at] = self;
+    }
 }
 
-fn wide64(w: u32) -> u64
-    ensures { (result ≡ w) × (result < 4294967296) }
-{
-    w as u64
+impl BigEndian for u16 {
+    const WIDTH: usize = 2;
+
+    ghost WIDTH = { 2 };
+
+    ghost number = { λ v. v };
+
+    fn read(d: &[u8], at: usize) -> u16 {
+        u16::from_be_bytes([d[at], d[at + 1]])
+    }
+
+    fn write(self, out: &mut [u8], at: usize) {
+        out[at..at + 2].copy_from_slice(&self.to_be_bytes());
+    }
 }
 
-// The number in one byte at `at`.
-pub fn u8_at(d: &[u8], at: usize) -> u8
-    requires { at + 1 ≤ length d.now }
-    ensures { result ≡ num 1 at d.now }
-{
-    d[at + 0]
+impl BigEndian for u32 {
+    const WIDTH: usize = 4;
+
+    ghost WIDTH = { 4 };
+
+    ghost number = { λ v. v };
+
+    fn read(d: &[u8], at: usize) -> u32 {
+        u32::from_be_bytes([d[at], d[at + 1], d[at + 2], d[at + 3]])
+    }
+
+    #[tactic(auto, using(crate::proofs::PartLaws::part_put))]
+    fn write(self, out: &mut [u8], at: usize) {
+        out[at..at + 4].copy_from_slice(&self.to_be_bytes());
+    }
 }
 
-// The number in two bytes at `at`.
-pub fn u16_at(d: &[u8], at: usize) -> u16
-    requires { at + 2 ≤ length d.now }
-    ensures { result ≡ num 2 at d.now }
-{
-    wide16(d[at + 0]) * 256 + wide16(d[at + 1])
+impl BigEndian for u64 {
+    const WIDTH: usize = 8;
+
+    ghost WIDTH = { 8 };
+
+    ghost number = { λ v. v };
+
+    fn read(d: &[u8], at: usize) -> u64 {
+        u64::from_be_bytes([
+            d[at],
+            d[at + 1],
+            d[at + 2],
+            d[at + 3],
+            d[at + 4],
+            d[at + 5],
+            d[at + 6],
+            d[at + 7],
+        ])
+    }
+
+    #[tactic(auto, using(crate::proofs::PartLaws::part_put))]
+    fn write(self, out: &mut [u8], at: usize) {
+        out[at..at + 8].copy_from_slice(&self.to_be_bytes());
+    }
 }
 
-// The number in three bytes at `at`.
-pub fn u24_at(d: &[u8], at: usize) -> u32
-    requires { at + 3 ≤ length d.now }
-    ensures { result ≡ num 3 at d.now }
+// The number at `at`.
+pub fn number_at<T: BigEndian>(d: &[u8], at: usize) -> T
+    requires { at + T.WIDTH ≤ length d.now }
+    ensures { T.number result ≡ num T.WIDTH at d.now }
 {
-    (wide32(d[at + 0]) * 256 + wide32(d[at + 1])) * 256 + wide32(d[at + 2])
+    T::read(d, at)
 }
 
-// The number in four bytes at `at`.
-pub fn u32_at(d: &[u8], at: usize) -> u32
-    requires { at + 4 ≤ length d.now }
-    ensures { result ≡ num 4 at d.now }
+// Writes a number at `at`.
+pub fn put<T: BigEndian>(out: &mut [u8], at: usize, v: T)
+    requires { at + T.WIDTH ≤ length out.old }
+    ensures { out.new ≡ splice at (big T.WIDTH (T.number v)) out.old }
 {
-    ((wide32(d[at + 0]) * 256 + wide32(d[at + 1])) * 256 + wide32(d[at + 2])) * 256
-        + wide32(d[at + 3])
+    v.write(out, at);
 }
 
-// The number in eight bytes at `at`.
-pub fn u64_at(d: &[u8], at: usize) -> u64
-    requires { at + 8 ≤ length d.now }
-    ensures { result ≡ num 8 at d.now }
+// Writes numbers side by side from `at` on: one call of this costs a writer less to prove than several of `put`.
+pub fn put_row<T: BigEndian>(out: &mut [u8], at: usize, numbers: &[T])
+    requires { at + T.WIDTH * length numbers.now ≤ length out.old }
+    ensures { out.new ≡ splice at (row T.WIDTH (map T.number numbers.now)) out.old }
 {
-    wide64(u32_at(d, at)) * 4294967296 + wide64(u32_at(d, at + 4))
-}
-
-// Writes a number of one byte at `at`.
-pub fn put_u8(out: &mut [u8], at: usize, v: u8)
-    requires { at + 1 ≤ length out.old }
-    ensures { out.new ≡ splice at (big 1 v) out.old }
-{
-    out[at] = v;
-}
-
-// Writes a number of two bytes at `at`.
-pub fn put_u16(out: &mut [u8], at: usize, v: u16)
-    requires { at + 2 ≤ length out.old }
-    ensures { out.new ≡ splice at (big 2 v) out.old }
-{
-    out[at] = (v / 256 % 256) as u8;
-    out[at + 1] = (v % 256) as u8;
-}
-
-// Writes a number of four bytes at `at`.
-pub fn put_u32(out: &mut [u8], at: usize, v: u32)
-    requires { at + 4 ≤ length out.old }
-    ensures { out.new ≡ splice at (big 4 v) out.old }
-{
-    out[at] = (v / 256 / 256 / 256 % 256) as u8;
-    out[at + 1] = (v / 256 / 256 % 256) as u8;
-    out[at + 2] = (v / 256 % 256) as u8;
-    out[at + 3] = (v % 256) as u8;
-}
-
-// Writes a number of eight bytes at `at`.
-pub fn put_u64(out: &mut [u8], at: usize, v: u64)
-    requires { at + 8 ≤ length out.old }
-    ensures { out.new ≡ splice at (big 8 v) out.old }
-{
-    put_u32(out, at, (v / 4294967296) as u32);
-    put_u32(out, at + 4, (v % 4294967296) as u32);
-}
-
-// Several numbers side by side: one call of these costs a writer less to prove than several of the above.
-pub fn put_u8_x4(out: &mut [u8], at: usize, a: u8, b: u8, c: u8, d: u8)
-    requires { at + 4 ≤ length out.old }
-    ensures { out.new ≡ splice at (row 1 (a ∷ b ∷ c ∷ d ∷ [])) out.old }
-{
-    out[at] = a;
-    out[at + 1] = b;
-    out[at + 2] = c;
-    out[at + 3] = d;
-}
-
-pub fn put_u8_x2_u16(out: &mut [u8], at: usize, a: u8, b: u8, c: u16)
-    requires { at + 4 ≤ length out.old }
-    ensures { out.new ≡ splice at (row 1 (a ∷ b ∷ []) ++ big 2 c) out.old }
-{
-    out[at] = a;
-    out[at + 1] = b;
-    put_u16(out, at + 2, c);
-}
-
-pub fn put_u16_x2(out: &mut [u8], at: usize, a: u16, b: u16)
-    requires { at + 4 ≤ length out.old }
-    ensures { out.new ≡ splice at (row 2 (a ∷ b ∷ [])) out.old }
-{
-    put_u16(out, at, a);
-    put_u16(out, at + 2, b);
-}
-
-pub fn put_u16_x4(out: &mut [u8], at: usize, a: u16, b: u16, c: u16, d: u16)
-    requires { at + 8 ≤ length out.old }
-    ensures { out.new ≡ splice at (row 2 (a ∷ b ∷ c ∷ d ∷ [])) out.old }
-{
-    put_u16_x2(out, at, a, b);
-    put_u16_x2(out, at + 4, c, d);
-}
-
-pub fn put_u32_x3(out: &mut [u8], at: usize, a: u32, b: u32, c: u32)
-    requires { at + 12 ≤ length out.old }
-    ensures { out.new ≡ splice at (row 4 (a ∷ b ∷ c ∷ [])) out.old }
-{
-    put_u32(out, at, a);
-    put_u32(out, at + 4, b);
-    put_u32(out, at + 8, c);
-}
-
-pub fn put_u64_x3(out: &mut [u8], at: usize, a: u64, b: u64, c: u64)
-    requires { at + 24 ≤ length out.old }
-    ensures { out.new ≡ splice at (row 8 (a ∷ b ∷ c ∷ [])) out.old }
-{
-    put_u64(out, at, a);
-    put_u64(out, at + 8, b);
-    put_u64(out, at + 16, c);
+    for (i, v) in numbers.iter().enumerate() {
+        v.write(out, at + T::WIDTH * i);
+    }
 }
 
 // Copies `src` into `out` from `at` on.
+#[tactic(auto, using(crate::proofs::PartLaws::part_put))]
 pub fn copy(out: &mut [u8], at: usize, src: &[u8])
     requires { at + length src.now ≤ length out.old }
     ensures { out.new ≡ splice at src.now out.old }
 {
-    let mut i = 0;
-    while i < src.len() {
-        out[at + i] = src[i];
-        i += 1;
-    }
+    out[at..at + src.len()].copy_from_slice(src);
 }
 
 // Writes `n` zero bytes into `out` from `at` on.
+#[tactic(auto, using(crate::proofs::PartLaws::part_put))]
 pub fn zero(out: &mut [u8], at: usize, n: usize)
     requires { at + n ≤ length out.old }
     ensures { out.new ≡ splice at (replicate n 0) out.old }
 {
-    let mut i = 0;
-    while i < n {
-        out[at + i] = 0;
-        i += 1;
-    }
+    out[at..at + n].fill(0);
 }
 
 // Whether every byte is zero.
 pub fn is_zero(s: &[u8]) -> bool
     ensures { result ≡ all_zero s.now }
 {
-    let mut i = 0;
-    while i < s.len() {
-        if s[i] != 0 {
-            return false;
-        }
-        i += 1;
-    }
-    true
-}
-
-// Tests joined as values, so that what a caller knows of each stays with it.
-pub fn both(a: bool, b: bool) -> bool
-    ensures { result ≡ (a && b) }
-{
-    if a { b } else { false }
-}
-
-pub fn either(a: bool, b: bool) -> bool
-    ensures { result ≡ (a || b) }
-{
-    if a { true } else { b }
-}
-
-pub fn no(a: bool) -> bool
-    ensures { result ≡ not a }
-{
-    if a { false } else { true }
+    s.iter().all(|b| *b == 0)
 }

@@ -12,10 +12,15 @@ pub(crate) fn put(out: &mut [u8], h: Header, pdu_type: u8, size: u16)
     requires { width (header_table true 0 0) ≤ length out.old }
     ensures { out.new ≡ splice 0 (fill (header_table (is_seven h.version) pdu_type size) (header_values h)) out.old }
 {
-    wire::put_u8_x4(out, 0, h.version, h.exercise, pdu_type, pdu::RADIO_FAMILY);
-    wire::put_u32(out, 4, h.timestamp);
-    wire::put_u16(out, 8, size);
-    wire::put_u8_x2_u16(out, 10, h.status, 0, h.site);
-    wire::put_u16_x2(out, 14, h.application, h.entity);
-    wire::put_u16(out, 18, h.radio);
+    wire::put_row(
+        out,
+        0,
+        &[h.version, h.exercise, pdu_type, pdu::RADIO_FAMILY],
+    );
+    wire::put(out, 4, h.timestamp);
+    wire::put(out, 8, size);
+    wire::put_row(out, 10, &[h.status, 0]);
+    wire::put(out, 12, h.site);
+    wire::put_row(out, 14, &[h.application, h.entity]);
+    wire::put(out, 18, h.radio);
 }

@@ -6,36 +6,28 @@ ghost use Rattle.std.specs.Prelude.{◌≡◌, [], length};
 ghost use Rattle.pdu.specs.Writing.{written, written_says, writing_says, output_after};
 ghost use Rattle.pdu.specs.declared.Reading.TheVariants.{Transmitter as a_transmitter, Signal as a_signal};
 
-use pdu::{Signal, Transmitter, Written};
+use crate::signal::Message;
+use pdu::{Refusal, Signal, Transmitter};
 
 mod header;
 mod signal;
 mod transmitter;
+mod writing;
 
 // Writes a Transmitter.
-pub fn write_transmitter(t: Transmitter, out: &mut [u8]) -> Written
+pub fn write_transmitter(t: Transmitter, out: &mut [u8]) -> Result<usize, Refusal>
     ensures answer { result ≡ written (a_transmitter t) (length out.old) }
     ensures says { written_says result ≡ writing_says (a_transmitter t) (length out.old) }
     ensures output { out.new ≡ output_after (a_transmitter t) [] out.old }
 {
-    let n = transmitter::refusal(t, out.len());
-    if n != 0 {
-        return Written::Refused(n);
-    }
-    transmitter::put(out, t);
-    Written::Size(pdu::TRANSMITTER_SIZE)
+    writing::write(&t, out)
 }
 
 // Writes a Signal, whose body is the whole slice.
-pub fn write_signal(s: Signal, body: &[u8], out: &mut [u8]) -> Written
+pub fn write_signal(s: Signal, body: &[u8], out: &mut [u8]) -> Result<usize, Refusal>
     ensures answer { result ≡ written (a_signal s (length body.now)) (length out.old) }
     ensures says { written_says result ≡ writing_says (a_signal s (length body.now)) (length out.old) }
     ensures output { out.new ≡ output_after (a_signal s (length body.now)) body.now out.old }
 {
-    let n = signal::refusal(s, body.len(), out.len());
-    if n != 0 {
-        return Written::Refused(n);
-    }
-    signal::put(out, s, body);
-    Written::Size(pdu::rules::signal_size(body.len() as u16))
+    writing::write(&Message { signal: s, body }, out)
 }

@@ -2,5 +2,5 @@
 use Rattle.std.proofs.Common.{◌<◌}
 use Rattle.planbench.proofs.run.Given as goal
 
-abbrev pub invariant-loop-turn : goal.invariant-loop-turn
-invariant-loop-turn l = l.sum < 1000003
+abbrev pub invariant-loop-n : goal.invariant-loop-n
+invariant-loop-n g l = l.sum < 1000003

@@ -1,41 +1,46 @@
--- `content` meets its contract: a datagram with its layout has the length that its fields need, by its PDU type.
-use mathlib.Core.Path.{◌≡◌, sym, ap, ap₂, ◌∙◌}
+-- `content` meets its contract: a datagram with its layout has the facts that its form keeps, by its PDU type.
+use Prim.Native.Nat.{ℕ}
+use mathlib.Core.Path.{◌≡◌, sym, ap, ap₂, subst, ◌∙◌}
+use mathlib.Core.List.{List}
 use mathlib.Core.Logic.{◌≢◌}
 use native.Mathlib.Omega.{arith}
 use Rattle.wire.specs.Bytes.{num}
+use Rattle.wire.specs.First.{first}
+use Rattle.pdu.specs.Reading.{Laid, layout_rules, transmitter_layout}
+use Rattle.pdu.specs.declared.Reading.{Reading}
 use Rattle.pdu.specs.declared.Reading.TheVariants.{Transmitter as a_transmitter, Signal as a_signal}
 use Rattle.pdu.proofs.Agreement.{content-transmitter, content-signal}
-use Rattle.pdu.proofs.ReadLaws.{laid_long, laid_transmitter, laid_signal, signal_laid}
+use Rattle.pdu.proofs.ReadLaws.{laid_long, laid_signal}
+use Rattle.reader.proofs.Checks.{transmitter_kept, signal_kept}
 use Rattle.reader.proofs.content.Goals as goal
-use Rattle.reader.proofs.content.Goals.{Else-u8_at-eq-TRANSMITTER_TYPE, Then-u8_at-eq-TRANSMITTER_TYPE}
+use Rattle.reader.proofs.content.Goals.{Else-number_at-eq-TRANSMITTER_TYPE, Then-number_at-eq-TRANSMITTER_TYPE}
 
-transmitter : (c : Then-u8_at-eq-TRANSMITTER_TYPE) → num 1 2 c.args.d.now ≡ 25
-transmitter c = sym c.u8_at.ensures ∙ c.if-u8_at-eq-TRANSMITTER_TYPE.true
+laid_layout : (d : List ℕ) → Laid d → num 1 2 d ≡ 25 → first (transmitter_layout d) ≡ 0
+laid_layout d h type = subst (λ (r : Reading). first (layout_rules r d) ≡ 0) (content-transmitter d type) h.1
 
-signal : (c : Else-u8_at-eq-TRANSMITTER_TYPE) → num 1 2 c.args.d.now ≢ 25
-signal c e = c.if-u8_at-eq-TRANSMITTER_TYPE.false (c.u8_at.ensures ∙ e)
+transmitter : (c : Then-number_at-eq-TRANSMITTER_TYPE) → num 1 2 c.args.d.now ≡ 25
+transmitter c = sym c.number_at.ensures ∙ c.if-number_at-eq-TRANSMITTER_TYPE.true
 
-pub u8_at-requires : goal.u8_at-requires
-u8_at-requires c = omega (arith, laid_long _ c.requires)
+signal : (c : Else-number_at-eq-TRANSMITTER_TYPE) → num 1 2 c.args.d.now ≢ 25
+signal c e = c.if-number_at-eq-TRANSMITTER_TYPE.false (c.number_at.ensures ∙ e)
 
-pub fields-requires : goal.fields-requires
-fields-requires c = omega (arith, laid_transmitter c.args.d.now c.requires (transmitter c))
+pub number_at-requires : goal.number_at-requires
+number_at-requires c = omega (arith, laid_long _ c.requires)
 
-pub body_size-size-requires : goal.body_size-size-requires
-body_size-size-requires c = laid_signal c.args.d.now c.requires (signal c)
+pub invariant_of-transmitter : goal.invariant_of-transmitter
+invariant_of-transmitter c =
+    transmitter_kept _ (laid_layout c.args.d.now c.requires (transmitter c)) (λ i. omega (arith, c.type_inv.d i))
 
-pub fields-requires-else-u8_at-eq-TRANSMITTER_TYPE : goal.fields-requires-else-u8_at-eq-TRANSMITTER_TYPE
-fields-requires-else-u8_at-eq-TRANSMITTER_TYPE c =
-    let past = (goal.at.fields-requires-else-u8_at-eq-TRANSMITTER_TYPE c).Else-u8_at-eq-TRANSMITTER_TYPE in
-    let held = c.args.d.now in
-    omega (arith, (signal_laid held (laid_signal held c.requires (signal past))).size)
+pub invariant_of-signal : goal.invariant_of-signal
+invariant_of-signal c =
+    signal_kept _ (laid_signal c.args.d.now c.requires (signal c)) (λ i. omega (arith, c.type_inv.d i))
 
-pub returns-then-u8_at-eq-TRANSMITTER_TYPE : goal.returns-then-u8_at-eq-TRANSMITTER_TYPE
-returns-then-u8_at-eq-TRANSMITTER_TYPE c =
-    let past = (goal.at.returns-then-u8_at-eq-TRANSMITTER_TYPE c).Then-u8_at-eq-TRANSMITTER_TYPE in
+pub returns-then-number_at-eq-TRANSMITTER_TYPE : goal.returns-then-number_at-eq-TRANSMITTER_TYPE
+returns-then-number_at-eq-TRANSMITTER_TYPE c =
+    let past = (goal.at.returns-then-number_at-eq-TRANSMITTER_TYPE c).Then-number_at-eq-TRANSMITTER_TYPE in
     ap a_transmitter c.fields.ensures ∙ sym (content-transmitter c.args.d.now (transmitter past))
 
-pub returns-else-u8_at-eq-TRANSMITTER_TYPE : goal.returns-else-u8_at-eq-TRANSMITTER_TYPE
-returns-else-u8_at-eq-TRANSMITTER_TYPE c =
-    let past = (goal.at.returns-else-u8_at-eq-TRANSMITTER_TYPE c).Else-u8_at-eq-TRANSMITTER_TYPE in
-    ap₂ a_signal c.fields-else-u8_at-eq-TRANSMITTER_TYPE.ensures c.body_size-size.ensures ∙ sym (content-signal c.args.d.now (signal past))
+pub returns-else-number_at-eq-TRANSMITTER_TYPE : goal.returns-else-number_at-eq-TRANSMITTER_TYPE
+returns-else-number_at-eq-TRANSMITTER_TYPE c =
+    let past = (goal.at.returns-else-number_at-eq-TRANSMITTER_TYPE c).Else-number_at-eq-TRANSMITTER_TYPE in
+    ap₂ a_signal c.fields-else-number_at-eq-TRANSMITTER_TYPE.ensures c.body_size-size.ensures.size ∙ sym (content-signal c.args.d.now (signal past))

@@ -1,16 +1,15 @@
--- The first block that shares a slot with block i decides, and at the end none does.
-use Rattle.std.proofs.Common.{refl, sym, ap, ◌∙◌, arith, not}
-use Rattle.slots.specs.Checking.{every}
-use Rattle.slots.proofs.SumLaws.{every_fails, every_more}
+-- `all` answers whether every block before i is apart from it.
+use Rattle.std.proofs.Common.{◌∙◌, arith, rules}
+use Rattle.std.proofs.lemmas.Iterator.{YieldsList-from_range}
+use Rattle.std.proofs.lemmas.Iterator.Search.{all_from_yields_List}
+use borrow.Author.Tests.{tests}
+use Rattle.slots.specs.Checking.{apart_from}
+use Rattle.slots.proofs.SumLaws.{every_below}
 use Rattle.slots.proofs.apart_before.Goals as goal
 
-pub loop-j-init : goal.loop-j-init
-unfolding every
-loop-j-init c = (omega arith, refl)
-
-pub returns-then-share_at : goal.returns-then-share_at
-returns-then-share_at c =
-    sym (every_fails _ _ c.loop-j.j c.loop-j-test.true (ap not (sym c.share_at.ensures ∙ c.if-share_at.true)))
-
-pub loop-j-preserved : goal.loop-j-preserved
-loop-j-preserved c = (omega arith, every_more _ _ c.loop-j.invariant.1 (ap not (sym c.share_at.ensures ∙ c.if-share_at.false)))
+pub returns : goal.returns
+returns c =
+    let apart = apart_from c.args.plan.now c.args.i in
+    let i = c.args.i in
+    all_from_yields_List apart _ _ _ c.all.ensures.ran (YieldsList-from_range 0 i i (cc) (omega arith)) (λ x b q k. search (rules, tests))
+    ∙ every_below apart i

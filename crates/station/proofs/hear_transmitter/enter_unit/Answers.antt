@@ -1,15 +1,13 @@
--- A first Transmitter is answered 40 with its entry made, or 30. The lowest free place is 16 exactly where none is free; below 16 it is free, and
--- the new entry goes there.
-use mathlib.Core.Path.{◌≡◌, sym, subst}
-use mathlib.Core.Bool.{false}
-use Prim.Native.Nat.{ℕ, ◌<◌}
-use Rattle.occupancy.specs.Places.{places, held}
+-- A first Transmitter is answered 40 with its entry made, or 30. The place found is the lowest free one, so it is free, and the new entry goes there.
+use Rattle.std.proofs.Common.{ℕ, ◌≡◌, ◌<◌, false}
+use Rattle.occupancy.specs.Places.{places, held, free_place}
 use Rattle.occupancy.proofs.WordLaws.{lowest_is_free}
 use Rattle.station.proofs.hear_transmitter.enter_unit.Goals as goal
 
-pub with_place-used-requires : goal.with_place-used-requires
-with_place-used-requires c =
-    let word = c.args.p.used in
-    let same = c.free_place-i.ensures in
-    let low = subst (λ (n : ℕ). n < places) same c.if-i-ge-PLACES.false in
-    (c.if-i-ge-PLACES.false, subst (λ (n : ℕ). held word n ≡ false) (sym same) (lowest_is_free word low))
+found_free : (word i : ℕ) → i ≡ free_place word → i < places → held word i ≡ false
+found_free word i same below = rw same (lowest_is_free word (rw (← same) below))
+
+pub with_place-station-requires : goal.with_place-station-requires
+with_place-station-requires c =
+    let (same, below) = c.in-Some.ensures in
+    (below, found_free c.args.station.now.used c.in-Some.i same below)

@@ -1,77 +1,67 @@
--- `put_bundle` meets its contract: at each turn, what is stored of the rest of the slice from the place reached, under the numbers from `next` on,
--- makes the store what the whole slice makes it (`onward` is one turn).
-use Prim.Native.Nat.{ℕ, ◌+◌, ◌<◌}
+-- `put_bundle` meets its contract: at each turn, what is stored of the rest of the slice, under the numbers from `next` on, makes the store what the
+-- whole slice makes it (`onward` is one turn).
+use Prim.Native.Nat.{ℕ, ◌+◌, ◌≤◌}
+use mathlib.Core.Path.{◌≡◌, refl, sym, ap, ◌∙◌}
 use mathlib.Core.List.{List}
-use mathlib.Core.Path.{◌≡◌, refl, sym, ap, ap₂, ◌∙◌}
-use lib.ListN.{length, drop}
+use lib.ListN.{length}
 use native.Mathlib.Omega.{arith}
-use Rattle.pdu.specs.Reading.{reading, used}
-use Rattle.trunk.specs.Kinds.{kind_of}
-use Rattle.trunk.specs.Bundle.{first_pdu, slice_stop, bundle}
+use Rattle.pdu.specs.Reading.{used}
+use Rattle.trunk.specs.Bundle.{first_pdu, bundle}
 use Rattle.trunk.specs.Near.{stored, stored_all}
-use Rattle.trunk.proofs.BundleLaws.{offered-zero, Passes, passing, first-stored}
-use Rattle.trunk.proofs.WalkLaws.{rest_part, Onward, onward, goes_from, ended}
+use Rattle.trunk.proofs.RefusalLaws.{some_number}
+use Rattle.trunk.proofs.BundleLaws.{offered-zero, passing, first-stored}
+use Rattle.trunk.proofs.WalkLaws.{Onward, part_behind, onward, ended}
 use Rattle.trunk.proofs.near_end.put_bundle.Goals as goal
-use Rattle.trunk.proofs.near_end.put_bundle.Goals.{After-slice_known-in-loop-from-1}
+use Rattle.trunk.proofs.near_end.put_bundle.Goals.{After-size}
 
--- nothing stops the PDU at a place, where nothing stops the rest from there on: it is carried, and the walk goes on behind it
-goes : (at : ℕ) (d : List ℕ) → at < length d → slice_stop (drop at d) ≡ 0 → Passes (drop at d)
-goes at d inside none = passing _ (goes_from at d inside none)
+-- one PDU further
+on : (c : After-size) → Onward c.loop-pdu.left.now (part_behind c.loop-pdu.left.now c.size.result)
+on c =
+    let first = c.in-Ok.ensures in
+    onward c.loop-pdu.left.now c.size.result (sym first.stop) (c.size.ensures ∙ ap used first.datagram)
 
-on : (at : ℕ) (d : List ℕ) → at < length d → slice_stop (drop at d) ≡ 0 → Onward at d
-on at d inside none = onward at d inside (goes_from at d inside none)
+inside : (c : After-size) → c.size.result ≤ length c.loop-pdu.left.now
+inside c = omega (arith, (on c).inside, c.size.ensures, ap used c.in-Ok.ensures.datagram)
 
--- how far a turn goes, and what it leaves in the store
-far : (c : After-slice_known-in-loop-from-1) → c.put_first-from.result ≡ used (drop c.loop-from.from c.args.datagram.now)
-far c = c.put_first-from.ensures.0 ∙ ap used (rest_part c.loop-from.from c.args.datagram.now)
-
-leaves : (c : After-slice_known-in-loop-from-1)
-    → c.put_first-from.new.store ≡ stored c.loop-from.next c.loop-from.store (first_pdu (drop c.loop-from.from c.args.datagram.now))
+-- what a turn leaves in the store
+leaves : (c : After-size) → c.store.new.store ≡ stored c.loop-pdu.next c.loop-pdu.store (first_pdu c.loop-pdu.left.now)
 leaves c =
-    let l = c.loop-from in
-    let d = c.args.datagram.now in
-    c.put_first-from.ensures.1
-    ∙ ap (stored l.next l.store) (rest_part l.from d)
-    ∙ first-stored l.next l.store (drop l.from d) (goes _ _ c.loop-from-test.true l.invariant.none).taken
+    let l = c.loop-pdu in
+    c.store.ensures
+    ∙ ap (stored l.next l.store) c.in-Ok.ensures.datagram
+    ∙ first-stored l.next l.store l.left.now (passing l.left.now (sym c.in-Ok.ensures.stop)).taken
 
-pub loop-from-init : goal.loop-from-init
-loop-from-init c = record { inside = omega arith; none = offered-zero _ c.requires.1; whole = refl; numbers = c.requires.2; same = refl }
+pub loop-pdu-init : goal.loop-pdu-init
+loop-pdu-init c = record { none = offered-zero _ c.requires.1; whole = refl; numbers = c.requires.2; same = refl }
 
-pub put_first-from-requires : goal.put_first-from-requires
-put_first-from-requires c =
-    let l = c.loop-from in
-    let kind = (goes _ _ c.loop-from-test.true l.invariant.none).kind in (
-      l.invariant.whole ∙ c.requires.0,
-      λ none. kind (sym (ap (λ (r : List ℕ). kind_of (reading r)) (rest_part l.from c.args.datagram.now)) ∙ none),
-    )
+pub slice_bounds-left-count : goal.slice_bounds-left-count
+slice_bounds-left-count c = inside c
 
-pub overflow_add-from : goal.overflow_add-from
-overflow_add-from c = omega (arith, far c, (on _ _ c.loop-from-test.true c.loop-from.invariant.none).inside)
+pub slice_bounds-left-start : goal.slice_bounds-left-start
+slice_bounds-left-start c = inside c
 
 pub overflow_add-next : goal.overflow_add-next
 overflow_add-next c =
-    let pdus = (on _ _ c.loop-from-test.true c.loop-from.invariant.none).pdus in
-    omega (arith, ap length pdus, c.loop-from.invariant.numbers)
+    let past = (goal.at.overflow_add-next c).After-size in
+    omega (arith, ap length (on past).pdus, c.loop-pdu.invariant.numbers)
 
-pub loop-from-smaller : goal.loop-from-smaller
-loop-from-smaller c =
-    let o = on _ _ c.loop-from-test.true c.loop-from.invariant.none in
-    omega (arith, far c, o.inside, o.some)
+pub loop-pdu-smaller : goal.loop-pdu-smaller
+loop-pdu-smaller c =
+    let past = (goal.at.loop-pdu-smaller c).After-size in
+    (on past).shorter
 
-pub loop-from-preserved : goal.loop-from-preserved
+pub loop-pdu-preserved : goal.loop-pdu-preserved
 unfolding stored_all
-loop-from-preserved c =
-    let l = c.loop-from in
-    let d : List ℕ = c.args.datagram.now in
-    let o = on _ _ c.loop-from-test.true l.invariant.none in
-    let next : l.from + c.put_first-from.result ≡ l.from + used (drop l.from d) = ap (λ (n : ℕ). l.from + n) (far c) in
+loop-pdu-preserved c =
+    let past = (goal.at.loop-pdu-preserved c).After-size in
+    let l = c.loop-pdu in
+    let o = on past in
     record {
-      inside = omega (arith, far c, o.inside);
-      none = ap (λ (n : ℕ). slice_stop (drop n d)) next ∙ sym o.stop ∙ l.invariant.none;
-      whole = c.put_first-from.auto.store ∙ l.invariant.whole;
-      numbers = omega (arith, l.invariant.numbers, ap length o.pdus, ap (λ (n : ℕ). length (bundle (drop n d))) next);
+      none = sym o.stop ∙ l.invariant.none;
+      whole = c.store.auto.store ∙ l.invariant.whole;
+      numbers = omega (arith, l.invariant.numbers, ap length o.pdus);
       same =
-          ap₂ (λ (s : List ℕ) (n : ℕ). stored_all (l.next + 1) s (bundle (drop n d))) (leaves c) next
+          ap (λ (s : List ℕ). stored_all (l.next + 1) s (bundle (part_behind l.left.now c.size.result))) (leaves past)
           ∙ ap (stored_all l.next l.store) (sym o.pdus)
           ∙ l.invariant.same;
     }
@@ -79,6 +69,7 @@ loop-from-preserved c =
 pub returns : goal.returns
 unfolding stored_all
 returns c =
-    let l = c.loop-from in
-    let end = ended l.from c.args.datagram.now c.loop-from-test.false in
-    ap (stored_all l.next l.store) (sym end.1) ∙ l.invariant.same
+    let l = c.loop-pdu in
+    let stop = c.in_default.ensures.stop in
+    let none = ended l.left.now l.invariant.none (λ z. some_number c.in_default.field-0 (stop ∙ z)) in
+    ap (stored_all l.next l.store) (sym none) ∙ l.invariant.same

@@ -1,12 +1,16 @@
--- `take_reply` meets its contract: refused, it changes nothing; else the acknowledged count is the later of the two.
-use mathlib.Core.Path.{◌≡◌, sym, ◌∙◌}
-use Rattle.wire.specs.First.{first}
-use Rattle.trunk.specs.Near.{reply_rules}
-use Rattle.trunk.proofs.EndLaws.{reply_form}
+-- `take_reply` meets its contract: refused, it changes nothing; else the acknowledged count is the larger of the two.
+use mathlib.Core.Path.{ap}
+use Rattle.std.specs.Prelude.{Err}
+use Rattle.trunk.specs.Refusals.{Refusal}
+use Rattle.trunk.specs.Near.{replied}
+use Rattle.trunk.proofs.RefusalLaws.{refuses, told_is}
 use Rattle.trunk.proofs.near_end.take_reply.Goals as goal
 
-pub head_of-head-requires : goal.head_of-head-requires
-head_of-head-requires c =
-    let passed : first (reply_rules c.args.near c.args.received.now) ≡ 0 =
-    sym c.reply_refusal-n.ensures ∙ c.if-n-ne0.false in
-    (reply_form c.args.near c.args.received.now passed).head
+pub returns-in-Err : goal.returns-in-Err
+unfolding replied
+returns-in-Err c =
+    let (broken, is) = refuses c.in-Err.refusal _ c.in-Err.ensures.first in
+    record {
+      answer = rw broken (ap (λ (e : Refusal). record { near = c.args.near; answer = Err e }) is);
+      says = told_is (Err c.in-Err.refusal) _ _ c.in-Err.ensures.first tt;
+    }

@@ -18,8 +18,8 @@ returns-then-is_timing c =
     let bytes : Bytes c.args.body.now = λ i. omega (arith, c.type_inv.body i) in
     let timing = sym c.is_timing.ensures ∙ c.if-is_timing.true in
     beside body_start 2 first (drop 2 c.args.body.now) c.args.out.now (length-big 2 (num 2 0 c.args.body.now % 8))
-    (c.copy.ensures ∙ ap (λ (l : List ℕ). splice (body_start + 2) l c.put_u16.new.out) (part_rest 2 c.args.body.now))
-    (c.put_u16.ensures ∙ ap (λ (v : ℕ). splice body_start (big 2 (v % 8)) c.args.out.now) c.u16_at-high.ensures)
+    (c.copy.ensures ∙ ap (λ (l : List ℕ). splice (body_start + 2) l c.put.new.out) (part_rest 2 c.args.body.now))
+    (c.put.ensures ∙ ap (λ (v : ℕ). splice body_start (big 2 (v % 8)) c.args.out.now) c.number_at-high.ensures)
     ∙ ap (λ (l : List ℕ). splice body_start l c.args.out.now) (sym (given-timing _ _ c.args.body.now timing c.requires.2 bytes refl))
 
 pub returns-else-is_timing : goal.returns-else-is_timing

@@ -1,0 +1,2 @@
+-- What the reader's own types keep.
+pub mod Laid

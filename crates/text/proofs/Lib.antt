@@ -1,0 +1,3 @@
+-- Lemmas of the numbers and of the hexadecimal bytes.
+mod Digits
+mod Numbers

@@ -1,0 +1,2 @@
+-- Laws of the checks of writing.
+pub mod Checks
