@@ -40,12 +40,10 @@ impl State {
             None => far_end::new(level, net, exchanges),
             Some(limit) => far_end::with_limit(level, net, exchanges, limit),
         };
-        // 0 is what the line prints for a station that was made.
-        let answer = match made.answer {
-            Ok(()) => 0,
-            Err(refusal) => refusal.number(),
-        };
-        show::line(rt, format_args!("station {answer}"));
+        show::line(
+            rt,
+            format_args!("station {}", station::made_number(made.answer)),
+        );
         self.far = made.far;
     }
 

@@ -1,6 +1,6 @@
 // What the station's calls answer, with document 01's number of each ("The numbers" and "The station").
 ghost use Rattle.std.specs.Prelude.{◌≡◌};
-ghost use Rattle.station.specs.Answers.{number};
+ghost use Rattle.station.specs.Answers.{number, made_number};
 
 use pdu::Refusal;
 
@@ -61,5 +61,15 @@ impl BadSettings {
         ensures { result ≡ 37 }
     {
         37
+    }
+}
+
+// Document 01's number of what a maker answers: 0, or that of its refusal. The maker's rules speak of this number (`made_by_rules`).
+pub fn made_number(answer: Result<(), BadSettings>) -> u8
+    ensures { result ≡ made_number answer }
+{
+    match answer {
+        Ok(()) => 0,
+        Err(refusal) => refusal.number(),
     }
 }

@@ -18,7 +18,7 @@ mod hear_signal;
 mod hear_transmitter;
 mod pass_time;
 
-pub use answers::{Answer, BadSettings};
+pub use answers::{Answer, BadSettings, made_number};
 
 // How many units a station holds at most.
 pub const PLACES: usize = occupancy::PLACES;
