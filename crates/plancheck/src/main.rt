@@ -16,7 +16,7 @@ fn answer(rt: &HostRuntime, rates: &[u8], plan: &[u8]) {
 
 fn main(rt: HostRuntime) {
     match plantext::read(&rt, Phase::RatesThenDash) {
-        Ok(input) => answer(&rt, &input.rates, &input.plan),
+        Ok(input) => answer(&rt, input.rates.as_slice(), input.plan.as_slice()),
         Err(failure) => failure.tell(&rt),
     }
 }

@@ -33,7 +33,7 @@ fn answer(rt: &HostRuntime, rates: &[u8]) {
 
 fn main(rt: HostRuntime) {
     match plantext::read(&rt, Phase::Rates) {
-        Ok(input) => answer(&rt, &input.rates),
+        Ok(input) => answer(&rt, input.rates.as_slice()),
         Err(failure) => failure.tell(&rt),
     }
 }

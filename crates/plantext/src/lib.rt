@@ -2,15 +2,17 @@
 #![tactic(auto)]
 
 mod line;
+mod list;
 
 ghost use Rattle.std.specs.Prelude.{◌≡◌, true, false, MatchResult, OnOk};
-ghost use Rattle.plantext.specs.Inputs.{may_come, phase_after, pushed, rates_after, with_block, plan_after};
+ghost use Rattle.plantext.specs.Inputs.{may_come, phase_after, rates_after, with_block, plan_after};
+ghost use Rattle.plantext.specs.Lists.{items};
 
-use arrayvec::ArrayVec;
 use line::Line;
+pub use list::ByteList;
 use std::io;
 use std::io::Read;
-use text::{ROOM, lines};
+use text::lines;
 
 // Which lines may come: rates alone; rates and then a dash; blocks behind the dash.
 #[derive(Clone, Copy, Debug, PartialEq, Eq)]
@@ -54,31 +56,24 @@ impl Failure {
     }
 }
 
-// Puts a byte behind a list, where there is room: a list without room is longer than any that is accepted.
-fn push(list: &mut ArrayVec<u8, ROOM>, byte: u8)
-    ensures { list.new.items ≡ pushed list.old.items byte }
-{
-    let _ = list.try_push(byte);
-}
-
 // Puts a block's four bytes behind a plan, the set as slots' number: in R-14's form, which this crate has without `slots` (its definition is `with_block`).
-fn push_block(plan: &mut ArrayVec<u8, ROOM>, set: u8, first: u16, rate: u8)
-    ensures { plan.new.items ≡ with_block plan.old.items set first rate }
+fn push_block(plan: &mut ByteList, set: u8, first: u16, rate: u8)
+    ensures { items plan.new ≡ with_block (items plan.old) set first rate }
 {
     let [high, low] = first.to_be_bytes();
-    push(plan, set);
-    push(plan, rate);
-    push(plan, high);
-    push(plan, low);
+    plan.push(set);
+    plan.push(rate);
+    plan.push(high);
+    plan.push(low);
 }
 
 // What was read so far: how many lines, which may come, the rates, and the bytes of a plan.
-#[derive(Drop)]
+#[derive(Clone, Copy)]
 pub struct Input {
-    lines: u64,
-    phase: Phase,
-    pub rates: ArrayVec<u8, ROOM>,
-    pub plan: ArrayVec<u8, ROOM>,
+    pub lines: u64,
+    pub phase: Phase,
+    pub rates: ByteList,
+    pub plan: ByteList,
 }
 
 impl Input {
@@ -86,8 +81,8 @@ impl Input {
         Input {
             lines: 0,
             phase,
-            rates: ArrayVec::new(),
-            plan: ArrayVec::new(),
+            rates: ByteList::new(),
+            plan: ByteList::new(),
         }
     }
 
@@ -95,11 +90,11 @@ impl Input {
     fn take(&mut self, line: Line) -> Result<(), BadLine>
         ensures may { MatchResult result (λ _. may_come self.old.phase line ≡ true) (λ _. may_come self.old.phase line ≡ false) }
         ensures phase { OnOk result (self.new.phase ≡ phase_after self.old.phase line) }
-        ensures rates { OnOk result (self.new.rates.items ≡ rates_after self.old.rates.items line) }
-        ensures plan { OnOk result (self.new.plan.items ≡ plan_after self.old.plan.items line) }
+        ensures rates { OnOk result (items self.new.rates ≡ rates_after (items self.old.rates) line) }
+        ensures plan { OnOk result (items self.new.plan ≡ plan_after (items self.old.plan) line) }
     {
         match line {
-            Line::Rate(rate) if self.phase != Phase::Blocks => push(&mut self.rates, rate),
+            Line::Rate(rate) if self.phase != Phase::Blocks => self.rates.push(rate),
             Line::Dash if self.phase == Phase::RatesThenDash => self.phase = Phase::Blocks,
             Line::Block { set, first, rate } if self.phase == Phase::Blocks => {
                 push_block(&mut self.plan, set, first, rate);
