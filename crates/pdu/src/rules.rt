@@ -65,11 +65,12 @@ impl Sync {
     pub fn is_wrong(self) -> bool
         ensures { result ≡ wrong_sync self }
     {
-        !(self.level <= crate::LAST_LEVEL
-            && is_primary(self.primary)
-            && self.secondary <= crate::LAST_SECONDARY_MODE
-            && matches!(self.state, crate::COARSE | crate::FINE)
-            && (crate::FIRST_ID_LEVEL <= self.level || self.id == 0))
+        // `&` and `|` join all five, so that there is one branch for the rule and not one for each field.
+        !((self.level <= crate::LAST_LEVEL)
+            & is_primary(self.primary)
+            & (self.secondary <= crate::LAST_SECONDARY_MODE)
+            & matches!(self.state, crate::COARSE | crate::FINE)
+            & ((crate::FIRST_ID_LEVEL <= self.level) | (self.id == 0)))
     }
 
     // 9.
