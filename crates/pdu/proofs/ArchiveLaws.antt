@@ -18,14 +18,14 @@ use Rattle.wire.proofs.FirstLaws.{first-lacks, first_past, first-without, withou
 use Rattle.pdu.specs.Rules.{is_retired, access_rules, slot_rules, network_rules, live_rules, body_rules, inner_rules}
 use Rattle.pdu.specs.Forms.{size_of}
 use Rattle.pdu.specs.Reading.{signal_of, body_size, content, start_rules, transmitter_layout, signal_layout, layout_rules, form_rules, Laid}
-use Rattle.pdu.specs.Reading.{reading_rules, refusal, answer_by, reading, reading_says, archive_rules, archive_refusal, archive_reading}
+use Rattle.pdu.specs.Reading.{reading_rules, refusal, answer_by, reading, reading_says, number_of, archive_rules, archive_refusal, archive_reading}
 use Rattle.pdu.specs.Reading.{archive_says, RefusedAs}
 use Rattle.pdu.specs.Plain.{plain_body_at, ArchiveBeside}
 use Rattle.pdu.specs.Refusals.{named}
 use Rattle.pdu.specs.declared.Reading.{Reading}
 use Rattle.pdu.specs.declared.Reading.TheVariants.{Refused, Signal as a_signal}
 use Rattle.pdu.proofs.Agreement.{content-transmitter, content-signal, body-verdict}
-use Rattle.pdu.proofs.Answers.{answer-taken, answer-refused, answers_as, answers-numbered, answer_says, refusal_known, archive_known}
+use Rattle.pdu.proofs.Answers.{answer-taken, answer-refused, answers_as, answers-numbered, answer-number, answer_says, refusal_known, archive_known}
 use Rattle.pdu.proofs.ReadLaws.{start_next, taken_laid, laid_signal, laid_size}
 
 -- whether a number is 50
@@ -97,8 +97,17 @@ pub archive_says_lem : (d : List ℕ) → reading_says (archive_reading d) ≡ a
 unfolding archive_reading
 archive_says_lem d = answer_says (archive_refusal d) d (archive_known d)
 
+-- the number of what is answered is the refusal number
+pub archive-number : (d : List ℕ) → number_of (archive_reading d) ≡ archive_refusal d
+unfolding archive_reading
+archive-number d = answer-number (archive_refusal d) d (archive_known d)
+
 pub archive-size : (d : List ℕ) → archive_refusal d ≡ 0 → size_of (archive_reading d) ≡ num 2 8 d
 archive-size d e = ap size_of (archive-taken d e) ∙ sym (laid_size d (archive_laid d e))
+
+-- and the size answered for a refused datagram is 0
+pub archive-no-size : (d : List ℕ) → archive_refusal d ≢ 0 → size_of (archive_reading d) ≡ 0
+archive-no-size d e = ap size_of (archive-refused d e)
 
 -- ---- beside live reading
 

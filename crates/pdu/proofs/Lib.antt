@@ -1,5 +1,6 @@
 -- Laws and theorems of the PDU part that belong to no one function.
 pub mod RefusalLaws
+pub mod WordLaws
 pub mod Agreement
 pub mod Answers
 pub mod VersionLaws

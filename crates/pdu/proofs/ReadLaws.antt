@@ -32,7 +32,7 @@ use Rattle.pdu.specs.declared.Reading.{Reading}
 use Rattle.pdu.specs.declared.Reading.TheVariants.{Refused, Transmitter as a_transmitter, Signal as a_signal}
 use Rattle.pdu.proofs.Agreement.{content-transmitter, content-signal, start-verdict, transmitter_layout_lem, signal_layout_lem}
 use Rattle.pdu.proofs.Agreement.{inner_record, signal_record}
-use Rattle.pdu.proofs.Answers.{Holds, reads_as, reading-taken}
+use Rattle.pdu.proofs.Answers.{Holds, reads_as, reading-taken, reading-refused}
 use Rattle.pdu.proofs.Taken.{Taken, taken, signal_bounds}
 use Rattle.pdu.proofs.RoundTrip.{length_form, written_form_back, written_back}
 
@@ -112,6 +112,10 @@ pub timing-size : (s : Signal) (n : ℕ) → first (inner_rules (a_signal s n)) 
 timing-size s n e =
     let (npg, (net, (tsec, (msec, (type, (slot, (epoch, (last, (live, ((words, six), rest)))))))))) = (inner_record s n).none.0 e in
     six
+
+-- the size answered for a refused datagram is 0
+pub refused-size : (d : List ℕ) → refusal d ≢ 0 → size_of (reading d) ≡ 0
+refused-size d h = ap size_of (reading-refused d h)
 
 -- a datagram in written form is taken
 pub written-taken : (d : List ℕ) → in_written_form d ≡ true → refusal d ≡ 0

@@ -6,12 +6,12 @@
 use Prim.Native.Nat.{ℕ, ◌≤◌, ◌<◌, ◌^◌}
 use mathlib.Core.Path.{◌≡◌, refl, sym, ap, ap₂, subst, ◌∙◌}
 use mathlib.Core.Logic.{◌↔◌, ◌⊎◌}
-use mathlib.Core.Bool.{Bool, true}
+use mathlib.Core.Bool.{Bool, true, false}
 use mathlib.Core.List.{List, [], ◌∷◌, ◌++◌, append-nil}
 use lib.ListN.{length, get_or, take, drop, replicate}
 use lib.Seq.{take_all, take_at, drop_at}
 use lib.Dec.{ltb}
-use borrow.Author.Tests.{eq-eqb, le-ltb}
+use borrow.Author.Tests.{eq-eqb, le-ltb, ltb-false}
 use native.Mathlib.Omega.{arith}
 use Rattle.std.specs.Prelude.{Some, Ok}
 use Rattle.wire.specs.Bytes.{Bytes}
@@ -67,6 +67,20 @@ record_numbered (a_signal s n) = refl
 pub writes : (r : Reading) (room : ℕ) → first (record_rules r) ≡ 0 → size_of r ≤ room → writing_refusal r room ≡ 0
 unfolding writing_rules
 writes r room e fits = first_next (record_rules r) _ (record_numbered r) e ∙ rw (le-ltb room (size_of r) fits)
+
+-- one that is written has room
+pub writes_room : (r : Reading) (room : ℕ) → writing_refusal r room ≡ 0 → size_of r ≤ room
+unfolding writing_rules
+writes_room r room e = by (ltb room (size_of r)) refl
+  where
+    last : first ((16 given_when ltb room (size_of r)) ∷ []) ≡ 0
+    last = (none_of (record_rules r) _ (record_numbered r) e).1
+
+    by : (b : Bool) → ltb room (size_of r) ≡ b → size_of r ≤ room
+    by true t =
+        let z : ◌≡◌ {A = ℕ} 16 0 = rw t at last in
+        absurd (omega arith)
+    by false t = ltb-false _ _ t
 
 pub writes_rules : (r : Reading) (room : ℕ) → writing_refusal r room ≡ 0 → first (record_rules r) ≡ 0
 unfolding writing_rules

@@ -2,20 +2,20 @@
 -- value in version 7 and are padding before it, and the tables are sound in either case. By the test of the version.
 -- Assumes nothing.
 use Prim.Native.Nat.{ℕ, ◌/◌, ◌%◌, ◌^◌, ◌<◌}
-use mathlib.Core.Path.{◌≡◌, refl, ap, ◌∙◌}
+use mathlib.Core.Path.{◌≡◌, refl, sym, ap, ◌∙◌}
 use mathlib.Core.Logic.{◌≢◌, inl, inr}
 use mathlib.Core.Bool.{Bool, true, false, cond, not, ◌&&◌}
 use mathlib.Core.List.{List, [], ◌∷◌}
 use lib.ListN.{get_or}
 use lib.Dec.{eqb, ltb}
-use borrow.Author.Tests.{eqb-true, eq-eqb, ne_eqb}
+use borrow.Author.Tests.{eqb-true, eqb-false, eq-eqb, ne_eqb}
 use native.Mathlib.Nat.{div-one}
 use native.Mathlib.Omega.{arith}
 use Rattle.wire.specs.Bytes.{num, big, Bytes}
-use Rattle.wire.specs.Table.{clean, fixed, bare, sound}
+use Rattle.wire.specs.Table.{clean, fixed, bare, all_blank, sound}
 use Rattle.wire.proofs.TableLaws.{both_true}
 use Rattle.wire.proofs.RuleLaws.{equal, negated, and_true}
-use Rattle.pdu.specs.Tables.{signal_size, data_bits, is_seven, bits_in, status_parts, records_parts, transmitter_table}
+use Rattle.pdu.specs.Tables.{signal_size, data_bits, is_seven, bits_in, status_parts, records_parts, header_table, transmitter_table}
 use Rattle.pdu.specs.Tables.{body_table, signal_table}
 use Rattle.pdu.specs.Rules.{wrong_status}
 use Rattle.pdu.specs.Plain.{StatusRule}
@@ -66,6 +66,35 @@ status_byte d b = ap (λ (v : ℕ). v % 256 ∷ []) (status_left d b) ∙ ap (λ
     small : (seven : Bool) → cond seven (get_or d 10 0) 0 % 256 ≡ cond seven (get_or d 10 0) 0
     small true = omega (arith, b 10)
     small false = refl
+
+-- whether the padding of the shared bytes is zero: byte 11 in version 7, bytes 10 and 11 before it
+pub blank_there : (d : List ℕ) (type size : ℕ)
+    → is_seven (num 1 0 d) ≡ true
+    → all_blank 0 (header_table (is_seven (num 1 0 d)) type size) d ≡ eqb (num 1 11 d) 0
+blank_there d type size e =
+    rw (e, eq-eqb (num 1 10 d / 2 ^ 8 % 2 ^ 0) 0 (omega arith)) (and_true (eqb (num 1 11 d) 0))
+
+pub blank-before : (d : List ℕ) (type size : ℕ)
+    → Bytes d
+    → is_seven (num 1 0 d) ≡ false
+    → all_blank 0 (header_table (is_seven (num 1 0 d)) type size) d ≡ eqb (num 2 10 d) 0
+blank-before d type size b e = rw (e, div-one (num 1 10 d)) (by (eqb (num 1 10 d % 2 ^ 8) 0) refl (eqb (num 1 11 d) 0) refl)
+  where
+    by : (x : Bool)
+        → eqb (num 1 10 d % 2 ^ 8) 0 ≡ x
+        → (y : Bool)
+        → eqb (num 1 11 d) 0 ≡ y
+        → (x && true && (y && true)) ≡ eqb (num 2 10 d) 0
+    by true p true q =
+        let high : num 1 10 d % 2 ^ 8 ≡ 0 = eqb-true _ _ p in
+        let low : num 1 11 d ≡ 0 = eqb-true _ _ q in
+        sym (eq-eqb (num 2 10 d) 0 (omega (arith, b 10)))
+    by true p false q =
+        let low : num 1 11 d ≢ 0 = eqb-false _ _ q in
+        sym (ne_eqb (num 2 10 d) 0 (λ z. low (omega arith)))
+    by false p y q =
+        let high : num 1 10 d % 2 ^ 8 ≢ 0 = eqb-false _ _ p in
+        sym (ne_eqb (num 2 10 d) 0 (λ z. high (omega arith)))
 
 -- ---- variable parameter records
 
