@@ -1,10 +1,13 @@
--- What two digits more do to the bytes that digits write.
+-- What two digits more do to the bytes that digits write, and a byte more to the digits of bytes.
 use Rattle.std.proofs.Common.{◌≡◌, ℕ, ◌+◌, ◌*◌, ◌<◌, ◌≤◌, ◌++◌, List, ◌∷◌, length, get_or, set, drop, take, refl, sym, ◌∙◌}
 use Rattle.std.proofs.Common.{suc, arith, drop-cons, append_assoc, append-nil}
-use Rattle.std.proofs.Common.{[], ◌-◌, ◌^◌, ◌/◌, ◌%◌, false}
-use Rattle.std.proofs.lemmas.Fmt.{hex_byte}
-use Rattle.std.proofs.lemmas.List.{drop_all, take_more, take_more_set}
-use Rattle.std.specs.Fmt.{digits, digit_glyph, padded_integral, format_spec}
+use Rattle.std.proofs.Common.{[], ◌/◌, ◌%◌, false, All}
+use Rattle.std.proofs.lemmas.List.{drop_all, length-set, take_more, take_more_set}
+use Rattle.std.proofs.lemmas.List.Elements.{All-from_get_or, All-head, All-tail}
+use Rattle.std.proofs.lemmas.Str.{IsUtf8-from_ascii}
+use Rattle.std.proofs.lemmas.Str.Ascii.{IsAscii-cons, IsAscii-nil}
+use Rattle.std.specs.Fmt.{digit_glyph}
+use Rattle.std.specs.Str.{IsAscii, IsUtf8}
 use Rattle.text.specs.Hex.{hex_value, bytes_of, digits_of}
 
 -- the byte of the two digits at i
@@ -32,11 +35,33 @@ pub bytes_whole : (n : ℕ) (out text : List ℕ) → length text ≤ 2 * n →
     take n out ++ bytes_of (drop (2 * n) text) ≡ bytes_of text → take n out ≡ bytes_of text
 bytes_whole n out text end so_far = sym (append-nil (take n out)) ∙ (rw (drop_all (2 * n) text) at so_far)
 
--- the digits of a byte go behind those of the bytes so far
-digits_of-append : (xs : List ℕ) (b : ℕ) → digits_of (xs ++ b ∷ []) ≡ digits_of xs ++ (digit_glyph false (b / 16) ∷ digit_glyph false (b % 16) ∷ [])
-digits_of-append [] b = refl
-digits_of-append (x ∷ xs) b = rw (digits_of-append xs b) refl
+-- the digits of bytes and of those behind them
+pub digits_of-append : (xs ys : List ℕ) → digits_of (xs ++ ys) ≡ digits_of xs ++ digits_of ys
+digits_of-append [] ys = refl
+digits_of-append (x ∷ xs) ys = rw (digits_of-append xs ys) refl
 
-pub digits_more : (i : ℕ) (s : List ℕ) → i < length s → get_or s i 0 < 256 →
-    digits_of (take i s) ++ padded_integral (format_spec 32 0 4 2 (2 ^ 64 - 1)) false [] (digits 16 false (get_or s i 0)) ≡ digits_of (take (i + 1) s)
-digits_more i s here small = rw (hex_byte false (get_or s i 0) small, take_more s i 0 here, digits_of-append) refl
+-- the digits of a byte go behind those of the bytes so far
+pub digits_more : (i high low : ℕ) (s out : List ℕ) → i < length s → 2 * i + 1 < length out →
+    high ≡ digit_glyph false (get_or s i 0 / 16) → low ≡ digit_glyph false (get_or s i 0 % 16) → take (2 * i) out ≡ digits_of (take i s) →
+    take (2 * (i + 1)) (set (set out (2 * i) high) (2 * i + 1) low) ≡ digits_of (take (i + 1) s)
+digits_more i high low s out here room is_high is_low so_far =
+    let two : 2 * (i + 1) ≡ 2 * i + 1 + 1 = omega arith in
+    let first = take_more_set out (2 * i) high (omega arith) in
+    let kept : 2 * i + 1 < length (set out (2 * i) high) = rw (length-set out (2 * i) high) room in
+    let second = take_more_set (set out (2 * i) high) (2 * i + 1) low kept in
+    rw (two, second, first, so_far, append_assoc, take_more s i 0 here, digits_of-append, is_high, is_low) refl
+
+-- digits are text
+glyph_ascii : (n : ℕ) → n < 16 → digit_glyph false n < 128
+glyph_ascii n small = grind (arith)
+
+digits_ascii : (xs : List ℕ) → All (λ b. b < 256) xs → IsAscii (digits_of xs)
+digits_ascii [] bytes = IsAscii-nil
+digits_ascii (b ∷ xs) bytes =
+    let byte : b < 256 = All-head (λ x. x < 256) b xs bytes in
+    let rest = digits_ascii xs (All-tail (λ x. x < 256) b xs bytes) in
+    let low = IsAscii-cons (digit_glyph false (b % 16)) (digits_of xs) (glyph_ascii (b % 16) (omega arith)) rest in
+    IsAscii-cons (digit_glyph false (b / 16)) (digit_glyph false (b % 16) ∷ digits_of xs) (glyph_ascii (b / 16) (omega arith)) low
+
+pub digits_utf8 : (xs : List ℕ) → ((i : ℕ) → get_or xs i 0 < 256) → IsUtf8 (digits_of xs)
+digits_utf8 xs bytes = IsUtf8-from_ascii _ (digits_ascii xs (All-from_get_or (λ b. b < 256) xs 0 (λ k _. bytes k)))

@@ -1,9 +1,16 @@
 // Bytes in lower-case hexadecimal, two digits each; `-` is no bytes.
-ghost use Rattle.std.specs.Prelude.{SomeIff, Some, option_copied};
-ghost use Rattle.text.specs.Hex.{IsHexDigit, hex_value, bytes_of, IsHex, written};
+ghost use Rattle.std.specs.Prelude.{SomeIff, Some, option_copied, ◌≡◌, ◌<◌, ◌≤◌, length, false};
+ghost use Rattle.std.specs.Fmt.{digit_glyph};
+ghost use Rattle.text.specs.Hex.{IsHexDigit, hex_value, bytes_of, IsHex, digits_of, written};
 
 use crate::ROOM;
-use std::fmt;
+use std::{fmt, str};
+
+// How many bytes are spelled at once.
+const CHUNK: usize = 64;
+
+// Room for their digits.
+const SPELLED: usize = 2 * CHUNK;
 
 // A hexadecimal digit's value.
 fn value(c: u8) -> Option<u8>
@@ -35,6 +42,30 @@ pub fn read<'a>(text: &[u8], out: &'a mut [u8; ROOM]) -> Option<&'a [u8]>
     Some(&out[..n])
 }
 
+// A digit's character.
+fn digit(n: u8) -> u8
+    requires { n < 16 }
+    ensures { result ≡ digit_glyph false n }
+{
+    if n < 10 { b'0' + n } else { b'a' - 10 + n }
+}
+
+// The digits of a chunk, spelled into `room`.
+#[tactic(auto, using(crate::proofs::Digits::digits_more))]
+fn spell<'a>(chunk: &[u8], room: &'a mut [u8; SPELLED]) -> &'a str
+    requires { length chunk.now ≤ CHUNK }
+    ensures { result.now ≡ digits_of chunk.now }
+{
+    for i in 0..chunk.len() {
+        room[2 * i] = digit(chunk[i] / 16);
+        room[2 * i + 1] = digit(chunk[i] % 16);
+    }
+    let Ok(text) = str::from_utf8(&room[..2 * chunk.len()]) else {
+        unreachable!();
+    };
+    text
+}
+
 // Bytes to be printed.
 #[derive(Clone, Copy)]
 pub struct Hex<'a>(pub &'a [u8]);
@@ -43,12 +74,12 @@ impl fmt::Display for Hex<'_> {
     ghost output = { λ h. Some (written h.0.now) };
 
     fn fmt<W: fmt::Write>(&self, f: &mut fmt::Formatter<W>) -> fmt::Result {
-        let bytes = self.0;
-        if bytes.is_empty() {
+        if self.0.is_empty() {
             return write!(f, "-");
         }
-        for &b in bytes {
-            write!(f, "{b:02x}")?;
+        let mut room = [0u8; SPELLED];
+        for chunk in self.0.chunks(CHUNK) {
+            f.write_str(spell(chunk, &mut room))?;
         }
         Ok(())
     }
