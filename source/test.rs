@@ -20,7 +20,7 @@ const KNOWN: [&str; 10] = [
     "pdu::Network::check_fields",
     "pdu::rules::signal_size",
     "wire::put",
-    "wire::put_row",
+    "wire::put_four",
     "wire::U16BigEndian::write",
     "wire::U64BigEndian::WIDTH",
     "wire::copy",

@@ -17,10 +17,9 @@ pub const LONGEST: u64 = 32;
 /// What the language's library brings: methods of slices, numbers and answers, functions of
 /// numbers, and the variants of its two types for an answer or none. What the compiler made of
 /// these is followed in its MIR.
-const METHODS: [&str; 12] = [
+const METHODS: [&str; 10] = [
     "all",
     "copy_from_slice",
-    "enumerate",
     "fill",
     "is_some",
     "iter",
@@ -29,9 +28,8 @@ const METHODS: [&str; 12] = [
     "next_multiple_of",
     "ok_or",
     "saturating_sub",
-    "to_be_bytes",
 ];
-const FUNCTIONS: [&str; 4] = ["count_ones", "from", "from_be_bytes", "trailing_zeros"];
+const FUNCTIONS: [&str; 3] = ["count_ones", "from", "trailing_zeros"];
 const VARIANTS: [&str; 4] = ["Err", "None", "Ok", "Some"];
 
 /// Traits of the library whose functions are called by name alone, in a macro or on a formatter.

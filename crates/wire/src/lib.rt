@@ -3,7 +3,7 @@
 // A place and a width belong to the call and not to the slice: a type for them, made anew for each call, would be no plainer than `at + w ≤ length`.
 #![tactic(auto)]
 
-ghost use Rattle.std.specs.Prelude.{ℕ, ◌≡◌, map, ◌+◌, ◌*◌, ◌≤◌, length, replicate};
+ghost use Rattle.std.specs.Prelude.{ℕ, ◌≡◌, [], ◌∷◌, ◌+◌, ◌*◌, ◌≤◌, length, replicate};
 ghost use Rattle.wire.specs.Bytes.{num, big, row, splice, all_zero};
 
 // An unsigned number that stands in bytes, most significant first (01: numbers are big-endian).
@@ -25,7 +25,8 @@ pub trait BigEndian: Copy {
         ensures { out.new ≡ splice at (big WIDTH (number self)) out.old };
 }
 
-// Four alike, and no macro: the toolchain takes no `impl` that a macro of the repository writes.
+// Four alike, and no macro: the toolchain takes no `impl` that a macro of the repository writes. A wider number is its halves:
+// the library's bytes of one are an array, and the writer, which writes straight into the lent output, has none.
 impl BigEndian for u8 {
     const WIDTH: usize = 1;
 
@@ -50,11 +51,12 @@ impl BigEndian for u16 {
     ghost number = { λ v. v };
 
     fn read(d: &[u8], at: usize) -> u16 {
-        u16::from_be_bytes([d[at], d[at + 1]])
+        u16::from(d[at]) * 256 + u16::from(d[at + 1])
     }
 
     fn write(self, out: &mut [u8], at: usize) {
-        out[at..at + 2].copy_from_slice(&self.to_be_bytes());
+        out[at] = (self / 256) as u8;
+        out[at + 1] = (self % 256) as u8;
     }
 }
 
@@ -66,12 +68,14 @@ impl BigEndian for u32 {
     ghost number = { λ v. v };
 
     fn read(d: &[u8], at: usize) -> u32 {
-        u32::from_be_bytes([d[at], d[at + 1], d[at + 2], d[at + 3]])
+        let high = number_at::<u16>(d, at);
+        let low = number_at::<u16>(d, at + 2);
+        u32::from(high) * 65536 + u32::from(low)
     }
 
-    #[tactic(auto, using(crate::proofs::PartLaws::part_put))]
     fn write(self, out: &mut [u8], at: usize) {
-        out[at..at + 4].copy_from_slice(&self.to_be_bytes());
+        put(out, at, (self / 65536) as u16);
+        put(out, at + 2, (self % 65536) as u16);
     }
 }
 
@@ -83,21 +87,14 @@ impl BigEndian for u64 {
     ghost number = { λ v. v };
 
     fn read(d: &[u8], at: usize) -> u64 {
-        u64::from_be_bytes([
-            d[at],
-            d[at + 1],
-            d[at + 2],
-            d[at + 3],
-            d[at + 4],
-            d[at + 5],
-            d[at + 6],
-            d[at + 7],
-        ])
+        let high = number_at::<u32>(d, at);
+        let low = number_at::<u32>(d, at + 4);
+        u64::from(high) * 4294967296 + u64::from(low)
     }
 
-    #[tactic(auto, using(crate::proofs::PartLaws::part_put))]
     fn write(self, out: &mut [u8], at: usize) {
-        out[at..at + 8].copy_from_slice(&self.to_be_bytes());
+        put(out, at, (self / 4294967296) as u32);
+        put(out, at + 4, (self % 4294967296) as u32);
     }
 }
 
@@ -117,14 +114,29 @@ pub fn put<T: BigEndian>(out: &mut [u8], at: usize, v: T)
     v.write(out, at);
 }
 
-// Writes numbers side by side from `at` on: one call of this costs a writer less to prove than several of `put`.
-pub fn put_row<T: BigEndian>(out: &mut [u8], at: usize, numbers: &[T])
-    requires { at + T.WIDTH * length numbers.now ≤ length out.old }
-    ensures { out.new ≡ splice at (row T.WIDTH (map T.number numbers.now)) out.old }
+// Writes two numbers side by side from `at` on, and below three and four: one call of these costs a writer less to prove than several of `put`.
+pub fn put_two<T: BigEndian>(out: &mut [u8], at: usize, a: T, b: T)
+    requires { at + T.WIDTH * 2 ≤ length out.old }
+    ensures { out.new ≡ splice at (row T.WIDTH (T.number a ∷ T.number b ∷ [])) out.old }
 {
-    for (i, v) in numbers.iter().enumerate() {
-        v.write(out, at + T::WIDTH * i);
-    }
+    a.write(out, at);
+    b.write(out, at + T::WIDTH);
+}
+
+pub fn put_three<T: BigEndian>(out: &mut [u8], at: usize, a: T, b: T, c: T)
+    requires { at + T.WIDTH * 3 ≤ length out.old }
+    ensures { out.new ≡ splice at (row T.WIDTH (T.number a ∷ T.number b ∷ T.number c ∷ [])) out.old }
+{
+    put_two(out, at, a, b);
+    c.write(out, at + T::WIDTH * 2);
+}
+
+pub fn put_four<T: BigEndian>(out: &mut [u8], at: usize, a: T, b: T, c: T, d: T)
+    requires { at + T.WIDTH * 4 ≤ length out.old }
+    ensures { out.new ≡ splice at (row T.WIDTH (T.number a ∷ T.number b ∷ T.number c ∷ T.number d ∷ [])) out.old }
+{
+    put_two(out, at, a, b);
+    put_two(out, at + T::WIDTH * 2, c, d);
 }
 
 // Copies `src` into `out` from `at` on.

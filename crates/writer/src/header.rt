@@ -12,15 +12,11 @@ pub(crate) fn put(out: &mut [u8], h: Header, pdu_type: u8, size: u16)
     requires { width (header_table true 0 0) ≤ length out.old }
     ensures { out.new ≡ splice 0 (fill (header_table (is_seven h.version) pdu_type size) (header_values h)) out.old }
 {
-    wire::put_row(
-        out,
-        0,
-        &[h.version, h.exercise, pdu_type, pdu::RADIO_FAMILY],
-    );
+    wire::put_four(out, 0, h.version, h.exercise, pdu_type, pdu::RADIO_FAMILY);
     wire::put(out, 4, h.timestamp);
     wire::put(out, 8, size);
-    wire::put_row(out, 10, &[h.status, 0]);
+    wire::put_two(out, 10, h.status, 0);
     wire::put(out, 12, h.site);
-    wire::put_row(out, 14, &[h.application, h.entity]);
+    wire::put_two(out, 14, h.application, h.entity);
     wire::put(out, 18, h.radio);
 }

@@ -31,7 +31,7 @@ fn put_network(out: &mut [u8], n: Network)
 {
     let slot_id = u32::from(n.epoch) * pdu::EPOCH_UNIT + n.slot;
     wire::put(out, 32, n.npg);
-    wire::put_row(out, 34, &[n.net, n.tsec, n.msec, n.message_type]);
+    wire::put_four(out, 34, n.net, n.tsec, n.msec, n.message_type);
     wire::put(out, 38, 0u16);
     wire::put(out, 40, slot_id);
     wire::put(out, 44, n.time);
@@ -83,9 +83,9 @@ impl Message<'_> {
     {
         let bits = 8 * (pdu::NETWORK_BYTES + self.body_size());
         let encoding = pdu::ENCODING_CLASS * pdu::ENCODING_KEPT + self.signal.encoding;
-        wire::put_row(out, 20, &[encoding, pdu::TDL_TYPE]);
+        wire::put_two(out, 20, encoding, pdu::TDL_TYPE);
         wire::put(out, 24, self.signal.rate);
-        wire::put_row(out, 28, &[bits, self.signal.samples]);
+        wire::put_two(out, 28, bits, self.signal.samples);
     }
 
     // Writes the body, and the fill.

@@ -18,11 +18,11 @@ fn put_entity(out: &mut [u8], e: Entity)
     requires { transmitter_size ≤ length out.old }
     ensures { out.new ≡ splice 20 (fill (entity_table true) (entity_values e)) out.old }
 {
-    wire::put_row(out, 20, &[e.kind, e.domain]);
+    wire::put_two(out, 20, e.kind, e.domain);
     wire::put(out, 22, e.country);
-    wire::put_row(out, 24, &[pdu::CATEGORY, e.version]);
+    wire::put_two(out, 24, pdu::CATEGORY, e.version);
     wire::put(out, 26, e.nomenclature);
-    wire::put_row(out, 28, &[e.state, pdu::INPUT_SOURCE]);
+    wire::put_two(out, 28, e.state, pdu::INPUT_SOURCE);
     wire::put(out, 30, 0u16);
 }
 
@@ -31,9 +31,9 @@ fn put_antenna(out: &mut [u8], a: Antenna)
     requires { transmitter_size ≤ length out.old }
     ensures { out.new ≡ splice 32 (fill antenna_table (antenna_values a)) out.old }
 {
-    wire::put_row(out, 32, &[a.x, a.y, a.z]);
-    wire::put_row(out, 56, &[a.dx, a.dy, a.dz]);
-    wire::put_row(out, 68, &[a.pattern, pdu::PATTERN_LENGTH]);
+    wire::put_three(out, 32, a.x, a.y, a.z);
+    wire::put_three(out, 56, a.dx, a.dy, a.dz);
+    wire::put_two(out, 68, a.pattern, pdu::PATTERN_LENGTH);
 }
 
 // Writes bytes 72 to 103.
@@ -44,9 +44,9 @@ fn put_emission(out: &mut [u8], e: Emission)
     wire::put(out, 72, e.frequency);
     wire::put(out, 80, e.bandwidth);
     wire::put(out, 84, e.power);
-    wire::put_row(out, 88, &[e.spread, pdu::MAJOR, pdu::DETAIL, pdu::SYSTEM]);
-    wire::put_row(out, 96, &[e.crypto, e.key]);
-    wire::put_row(out, 100, &[pdu::MODULATION_LENGTH, 0, 0, 0]);
+    wire::put_four(out, 88, e.spread, pdu::MAJOR, pdu::DETAIL, pdu::SYSTEM);
+    wire::put_two(out, 96, e.crypto, e.key);
+    wire::put_four(out, 100, pdu::MODULATION_LENGTH, 0, 0, 0);
 }
 
 // Writes bytes 104 to 111.
@@ -54,7 +54,7 @@ fn put_sync(out: &mut [u8], s: Sync)
     requires { transmitter_size ≤ length out.old }
     ensures { out.new ≡ splice 104 (fill sync_table (sync_values s)) out.old }
 {
-    wire::put_row(out, 104, &[s.level, s.primary, s.secondary, s.state]);
+    wire::put_four(out, 104, s.level, s.primary, s.secondary, s.state);
     wire::put(out, 108, s.id);
 }
 
