@@ -3,7 +3,7 @@
 // A place and a width belong to the call and not to the slice: a type for them, made anew for each call, would be no plainer than `at + w ≤ length`.
 #![tactic(auto)]
 
-ghost use Rattle.std.specs.Prelude.{ℕ, ◌≡◌, [], ◌∷◌, ◌+◌, ◌*◌, ◌≤◌, length, replicate};
+ghost use Rattle.std.specs.Prelude.{ℕ, ◌≡◌, [], ◌∷◌, ◌+◌, ◌*◌, ◌/◌, ◌%◌, ◌≤◌, length, replicate};
 ghost use Rattle.wire.specs.Bytes.{num, big, row, splice, all_zero};
 
 // An unsigned number that stands in bytes, most significant first (01: numbers are big-endian).
@@ -25,8 +25,25 @@ pub trait BigEndian: Copy {
         ensures { out.new ≡ splice at (big WIDTH (number self)) out.old };
 }
 
-// Four alike, and no macro: the toolchain takes no `impl` that a macro of the repository writes. A wider number is its halves:
-// the library's bytes of one are an array, and the writer, which writes straight into the lent output, has none.
+// A number of two bytes with its bytes turned about.
+fn turned_two(v: u16) -> u16
+    ensures { result ≡ v % 256 * 256 + v / 256 }
+{
+    v % 256 * 256 + v / 256
+}
+
+// A number of four bytes with its bytes turned about.
+fn turned_four(v: u32) -> u32
+    ensures { result ≡ (v % 256 * 256 + v / 256 % 256) * 65536 + (v / 65536 % 256 * 256 + v / 16777216) }
+{
+    let high = v % 256 * 256 + v / 256 % 256;
+    let low = v / 65536 % 256 * 256 + v / 16777216;
+    high * 65536 + low
+}
+
+// Four alike, and no macro: the toolchain takes no `impl` that a macro of the repository writes. None has an array, as the library's bytes of a
+// number are: what the writer reaches has none. Two bytes, or four, are read and written least first and turned about: the compiler makes one load
+// and one store of that, and of bytes in the wire's own order it does not.
 impl BigEndian for u8 {
     const WIDTH: usize = 1;
 
@@ -51,12 +68,13 @@ impl BigEndian for u16 {
     ghost number = { λ v. v };
 
     fn read(d: &[u8], at: usize) -> u16 {
-        u16::from(d[at]) * 256 + u16::from(d[at + 1])
+        turned_two(u16::from(d[at]) + u16::from(d[at + 1]) * 256)
     }
 
     fn write(self, out: &mut [u8], at: usize) {
-        out[at] = (self / 256) as u8;
-        out[at + 1] = (self % 256) as u8;
+        let turned = turned_two(self);
+        out[at] = (turned % 256) as u8;
+        out[at + 1] = (turned / 256) as u8;
     }
 }
 
@@ -68,14 +86,17 @@ impl BigEndian for u32 {
     ghost number = { λ v. v };
 
     fn read(d: &[u8], at: usize) -> u32 {
-        let high = number_at::<u16>(d, at);
-        let low = number_at::<u16>(d, at + 2);
-        u32::from(high) * 65536 + u32::from(low)
+        let first = u32::from(d[at]) + u32::from(d[at + 1]) * 256;
+        let last = u32::from(d[at + 2]) + u32::from(d[at + 3]) * 256;
+        turned_four(first + last * 65536)
     }
 
     fn write(self, out: &mut [u8], at: usize) {
-        put(out, at, (self / 65536) as u16);
-        put(out, at + 2, (self % 65536) as u16);
+        let turned = turned_four(self);
+        out[at] = (turned % 256) as u8;
+        out[at + 1] = (turned / 256 % 256) as u8;
+        out[at + 2] = (turned / 65536 % 256) as u8;
+        out[at + 3] = (turned / 16777216) as u8;
     }
 }
 
