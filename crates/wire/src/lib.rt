@@ -3,7 +3,7 @@
 // A place and a width belong to the call and not to the slice: a type for them, made anew for each call, would be no plainer than `at + w ≤ length`.
 #![tactic(auto)]
 
-ghost use Rattle.std.specs.Prelude.{ℕ, ◌≡◌, [], ◌∷◌, ◌+◌, ◌*◌, ◌/◌, ◌%◌, ◌≤◌, length, replicate};
+ghost use Rattle.std.specs.Prelude.{ℕ, ◌≡◌, [], ◌∷◌, map, ◌+◌, ◌*◌, ◌/◌, ◌%◌, ◌≤◌, length, replicate};
 ghost use Rattle.wire.specs.Bytes.{num, big, row, splice, all_zero};
 
 // An unsigned number that stands in bytes, most significant first (01: numbers are big-endian).
@@ -160,6 +160,16 @@ pub fn put_four<T: BigEndian>(out: &mut [u8], at: usize, a: T, b: T, c: T, d: T)
     put_two(out, at + T::WIDTH * 2, c, d);
 }
 
+// Writes the numbers of a slice side by side from `at` on. The writer keeps to the three above: it would need an array to lend.
+pub fn put_row<T: BigEndian>(out: &mut [u8], at: usize, numbers: &[T])
+    requires { at + T.WIDTH * length numbers.now ≤ length out.old }
+    ensures { out.new ≡ splice at (row T.WIDTH (map T.number numbers.now)) out.old }
+{
+    for (i, v) in numbers.iter().enumerate() {
+        v.write(out, at + T::WIDTH * i);
+    }
+}
+
 // Copies `src` into `out` from `at` on.
 #[tactic(auto, using(crate::proofs::PartLaws::part_put))]
 pub fn copy(out: &mut [u8], at: usize, src: &[u8])
@@ -183,4 +193,25 @@ pub fn is_zero(s: &[u8]) -> bool
     ensures { result ≡ all_zero s.now }
 {
     s.iter().all(|b| *b == 0)
+}
+
+#[cfg(test)]
+mod tests {
+    use super::put_row;
+
+    // Rows of each width, and one of no numbers: the most significant byte comes first, and the bytes beside the rows are as they were.
+    #[test]
+    fn rows_are_put_side_by_side(rt: HostRuntime) {
+        let mut out = [0xEE; 32];
+        put_row(&mut out, 0, &[1u8, 2, 3]);
+        put_row(&mut out, 4, &[0x0102u16, 0xFFFE]);
+        put_row(&mut out, 9, &[0x0102_0304u32, 0]);
+        put_row(&mut out, 18, &[0x0102_0304_0506_0708u64]);
+        put_row(&mut out, 32, &[0u64; 0]);
+        let wanted = [
+            1, 2, 3, 0xEE, 1, 2, 0xFF, 0xFE, 0xEE, 1, 2, 3, 4, 0, 0, 0, 0, 0xEE, 1, 2, 3, 4, 5, 6,
+            7, 8, 0xEE, 0xEE, 0xEE, 0xEE, 0xEE, 0xEE,
+        ];
+        assert_eq!(rt; out, wanted);
+    }
 }
